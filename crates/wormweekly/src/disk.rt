@@ -1,4 +1,5 @@
 //! Files on a disk.
+use crate::progress::Progress;
 use metric_base::Text;
 use metric_console::{Folder, Unread, Unwritten};
 use metric_io::{ReadFault, StdSource, read_all};
@@ -20,6 +21,8 @@ const MOST_NAMES: u32 = 1_000;
 #[derive(Clone, Copy)]
 pub struct Disk<'a> {
     pub rt: &'a HostRuntime,
+    /// Where it is shown which file is read.
+    pub progress: &'a Progress<'a>,
 }
 
 impl Folder for Disk<'_> {
@@ -35,10 +38,10 @@ impl Folder for Disk<'_> {
         if is_standard(path) {
             return self.text_in(alloc, STANDARD_INPUT, self.rt.stdin());
         }
-        match fs::open(self.rt, path) {
-            Ok(file) => self.text_in(alloc, path, file),
-            Err(error) => Err(unread(error.kind())),
-        }
+        self.progress.reads();
+        let answer = self.text_at(alloc, path);
+        self.progress.works();
+        answer
     }
 
     fn is_same(&self, path: &str, other: &str) -> bool {
@@ -60,6 +63,14 @@ impl Folder for Disk<'_> {
 }
 
 impl Disk<'_> {
+    // The text of the file at a path.
+    fn text_at(&self, alloc: Global, path: &str) -> Result<Text, Unread> {
+        match fs::open(self.rt, path) {
+            Ok(file) => self.text_in(alloc, path, file),
+            Err(error) => Err(unread(error.kind())),
+        }
+    }
+
     // The text of an open file.
     fn text_in<R: Read + Drop>(&self, alloc: Global, path: &str, file: R) -> Result<Text, Unread> {
         let mut source = StdSource::new(file);

@@ -67,8 +67,8 @@ fn run(rt: &HostRuntime, request: Result<Request, LineFault>) -> u8 {
         progress: &progress,
     };
     let status = match BufWriter::new(rt.alloc(), counted) {
-        Ok(output) => run_into(rt, request, output, told),
-        Err(_) => run_into(rt, Err(LineFault::Memory), rt.stdout(), told),
+        Ok(output) => run_into(rt, request, &progress, output, told),
+        Err(_) => run_into(rt, Err(LineFault::Memory), &progress, rt.stdout(), told),
     };
     progress.erase();
     status
@@ -78,11 +78,12 @@ fn run(rt: &HostRuntime, request: Result<Request, LineFault>) -> u8 {
 fn run_into<W: Write + Drop, E: Write + Drop>(
     rt: &HostRuntime,
     request: Result<Request, LineFault>,
+    progress: &Progress<'_>,
     output: W,
     told: E,
 ) -> u8 {
     let is_closed = Cell::new(false);
-    let status = run_watched(rt, request, output, told, &is_closed);
+    let status = run_watched(rt, request, progress, output, told, &is_closed);
     if is_closed.get() { CLOSED } else { status }
 }
 
@@ -90,11 +91,12 @@ fn run_into<W: Write + Drop, E: Write + Drop>(
 fn run_watched<W: Write + Drop, E: Write + Drop>(
     rt: &HostRuntime,
     request: Result<Request, LineFault>,
+    progress: &Progress<'_>,
     output: W,
     told: E,
     is_closed: &Cell<bool>,
 ) -> u8 {
-    let mut folder = Disk { rt };
+    let mut folder = Disk { rt, progress };
     let mut sink = StdSink::new(Watched {
         writer: output,
         is_closed,

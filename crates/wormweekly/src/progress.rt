@@ -1,44 +1,71 @@
-//! How far a replay is, for whoever waits at a terminal.
+//! How far a request is, for whoever waits at a terminal.
 use metric_request::{Form, LineFault, Request, Task};
 use std::cell::Cell;
 use std::io::{self, IsTerminal, Write};
 use std::time::Instant;
 
 // Takes away the longest line.
-const BLANK: &[u8] = b"\r                             \r";
+const BLANK: &[u8] = b"\r                              \r";
 
-/// How many lines a replay has written, shown once a second in one line of standard error, and only where that is a
-/// terminal and standard output is none.
+/// What the program is at, in one line of standard error, and only where that is a terminal: which file it reads, then
+/// what it makes of them. A replay into a file or a pipe shows once a second how many lines it has written.
 #[derive(Drop)]
 pub struct Progress<'a> {
     rt: &'a HostRuntime,
-    // When it began, where it is shown.
+    is_shown: bool,
+    work: &'static str,
+    // When a replay began of which the lines are counted.
     start: Option<Instant>,
     lines: Cell<u64>,
-    // The whole second at which it was shown last, and 0 where nothing stands in the line.
-    shown: Cell<u64>,
+    // The whole second at which the lines were shown last.
+    seconds: Cell<u64>,
+    files: Cell<u32>,
+    is_filled: Cell<bool>,
 }
 
 impl<'a> Progress<'a> {
     /// That of a request, at its beginning.
     pub fn new(rt: &'a HostRuntime, request: &Result<Request, LineFault>) -> Progress<'a> {
-        let is_shown = is_long(request) && rt.stderr().is_terminal() && !rt.stdout().is_terminal();
+        let is_shown = rt.stderr().is_terminal();
+        let is_counted = is_shown && writes_lines(request) && !rt.stdout().is_terminal();
         Progress {
             rt,
-            start: if is_shown {
+            is_shown,
+            work: work_of(request),
+            start: if is_counted {
                 Instant::now(rt).ok()
             } else {
                 None
             },
             lines: Cell::new(0),
-            shown: Cell::new(0),
+            seconds: Cell::new(0),
+            files: Cell::new(0),
+            is_filled: Cell::new(false),
+        }
+    }
+
+    /// The next file is read.
+    pub fn reads(&self) {
+        let number = self.files.get().saturating_add(1);
+        self.files.set(number);
+        if self.is_shown
+            && let Ok(text) = format!(in self.rt.alloc(); "reading file {number}")
+        {
+            self.show(text.as_str());
+        }
+    }
+
+    /// A file was read; the work begins where it was the last.
+    pub fn works(&self) {
+        if self.is_shown {
+            self.show(self.work);
         }
     }
 
     /// Takes the line away.
     pub fn erase(&self) {
-        if self.shown.get() > 0 {
-            self.shown.set(0);
+        if self.is_filled.get() {
+            self.is_filled.set(false);
             let _erased = self.rt.stderr().write_all(BLANK);
         }
     }
@@ -52,22 +79,25 @@ impl<'a> Progress<'a> {
         let lines = self.lines.get().saturating_add(more as u64);
         self.lines.set(lines);
         if let Ok(passed) = start.elapsed(self.rt)
-            && passed.as_secs() > self.shown.get()
+            && passed.as_secs() > self.seconds.get()
         {
-            self.shown.set(passed.as_secs());
-            self.show(lines);
+            self.seconds.set(passed.as_secs());
+            if let Ok(text) = format!(in self.rt.alloc(); "lines: {lines}") {
+                self.show(text.as_str());
+            }
         }
     }
 
-    fn show(&self, lines: u64) {
-        if let Ok(text) = format!(in self.rt.alloc(); "\rlines: {lines}") {
-            let _shown = self.rt.stderr().write_all(text.as_bytes());
-        }
+    // Shows a text in the place of what stands in the line.
+    fn show(&self, text: &str) {
+        self.erase();
+        self.is_filled.set(true);
+        let _shown = self.rt.stderr().write_all(text.as_bytes());
     }
 }
 
-// Whether a request may take long, and writes lines while it runs.
-fn is_long(request: &Result<Request, LineFault>) -> bool {
+// Whether a request writes lines while it runs.
+fn writes_lines(request: &Result<Request, LineFault>) -> bool {
     match request {
         Ok(request) => {
             request.task == Task::Replay
@@ -77,7 +107,22 @@ fn is_long(request: &Result<Request, LineFault>) -> bool {
     }
 }
 
-/// A writer of which the lines are counted.
+// What is made of the files.
+fn work_of(request: &Result<Request, LineFault>) -> &'static str {
+    match request {
+        Ok(request) => match request.task {
+            Task::Make => "making a certificate",
+            Task::Check => "checking a certificate",
+            Task::Replay => "replaying",
+            Task::Diff => "comparing",
+            Task::Draw => "drawing",
+            Task::Lint | Task::Show | Task::Headroom | Task::Report | Task::Expand => "working",
+        },
+        Err(_) => "working",
+    }
+}
+
+/// A writer before whose texts the line is taken away, and of which the lines are counted.
 #[derive(Drop)]
 pub struct Counted<'a, W> {
     pub writer: W,
@@ -88,6 +133,7 @@ impl<W: Write> Write for Counted<'_, W> {
     ghost contents = { λ counted. W.contents counted.writer };
 
     fn write(&mut self, buf: &[u8]) -> io::Result<usize> {
+        self.progress.erase();
         let answer = self.writer.write(buf);
         if let Ok(written) = &answer {
             self.progress.count(&buf[..*written]);
