@@ -61,8 +61,12 @@ impl Book for Audited {
         Ok(())
     }
 
-    fn window(&mut self, alloc: Global, reader: u32) -> Result<Window, AllocError> {
-        self.tables.window(alloc, reader)
+    fn report(&self, alloc: Global, reader: u32) -> Result<Window, AllocError> {
+        self.tables.report(alloc, reader)
+    }
+
+    fn advance(&mut self, reader: u32) {
+        self.tables.advance(reader);
     }
 
     fn entries(&self) -> &[Entry] {

@@ -103,7 +103,8 @@ fn reports<B: Book>(
         ReportsPoints (B.stands book.old) reader streams.now same) }
     ensures moves { OnOk result (MovesMark (B.stands book.old) (B.stands book.new) reader) }
 {
-    let window = book.window(alloc, reader)?;
+    let window = book.report(alloc, reader)?;
+    book.advance(reader);
     Ok(are_same_streams(streams, window.streams.as_slice()))
 }
 

@@ -59,13 +59,17 @@ pub trait Book: Drop {
         ensures stands { OnOk result (TakesRecording (stands self.old) (stands self.new) entry) }
         ensures err { OnErr result (self.new ≡ self.old) };
 
-    /// What a collection by the reader covers and reports; its mark moves to the number of recordings so far, and
-    /// no other mark moves. Fails only where memory is refused, and then nothing has changed.
-    fn window(&mut self, alloc: Global, reader: u32) -> Result<Window, AllocError>
+    /// What a collection by the reader covers and reports. Nothing changes: until the mark is advanced, the next report
+    /// covers the same recordings again. Fails only where memory is refused.
+    fn report(&self, alloc: Global, reader: u32) -> Result<Window, AllocError>
+        requires { HasReader (stands self.now) reader }
+        ensures { IfOk result (λ window. ReportsWindow (stands self.now) reader window) };
+
+    /// Ends the reader's window: its mark moves to the number of recordings so far, and no other mark moves. Takes no
+    /// memory.
+    fn advance(&mut self, reader: u32)
         requires { HasReader (stands self.old) reader }
-        ensures window { IfOk result (λ window. ReportsWindow (stands self.old) reader window) }
-        ensures stands { OnOk result (MovesMark (stands self.old) (stands self.new) reader) }
-        ensures err { OnErr result (self.new ≡ self.old) };
+        ensures { MovesMark (stands self.old) (stands self.new) reader };
 
     /// The accepted recordings, oldest first, where the book keeps them; else none.
     fn entries(&self) -> &[Entry]

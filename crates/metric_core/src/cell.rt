@@ -179,14 +179,22 @@ impl<B: Book> Cell<B> {
         ensures refused { IfErr result (λ refusal. refusal ≡ Refusal.Memory) }
         ensures err { OnErr result (self.new ≡ self.old) }
     {
-        let Ok(window) = self.book.window(alloc, reader) else {
+        let batch = self.report(alloc, reader, now)?;
+        self.advance(reader, batch.time);
+        Ok(batch)
+    }
+
+    /// What the reader is told at a time in nanoseconds, as [`Cell::collect`] tells it. Nothing changes: until the cell
+    /// is advanced, the reader's next batch reports the same recordings again. The only refusal is `Memory`.
+    pub fn report(&self, alloc: Global, reader: u32, now: u64) -> Result<Batch, Refusal>
+        requires { reader < length self.now.facts.delta }
+        ensures batch { IfOk result (λ batch. ReportsBatch B.stands self.now reader now batch) }
+        ensures refused { IfErr result (λ refusal. refusal ≡ Refusal.Memory) }
+    {
+        let Ok(window) = self.book.report(alloc, reader) else {
             return Err(Refusal::Memory);
         };
-        let at = reader as usize;
-        let previous = self.times[at];
-        let time = now.max(previous);
-        self.marks[at] = self.count;
-        self.times[at] = time;
+        let previous = self.times[reader as usize];
         Ok(Batch {
             plan: self.facts.plan,
             reader,
@@ -198,9 +206,21 @@ impl<B: Book> Cell<B> {
             } else {
                 self.start
             },
-            time,
+            time: now.max(previous),
             streams: window.streams,
         })
+    }
+
+    /// Ends the reader's window with a batch of this time in nanoseconds: all recordings so far were reported to it.
+    /// Takes no memory.
+    pub fn advance(&mut self, reader: u32, time: u64)
+        requires { reader < length self.old.facts.delta }
+        ensures new { self.new ≡ with_batch self.old reader time self.new.book }
+        ensures stands { KeepsJournal B.stands self.old self.new }
+    {
+        self.book.advance(reader);
+        self.marks[reader as usize] = self.count;
+        self.times[reader as usize] = time;
     }
 
     /// Ends the recordings. `Closed` comes exactly where the instrument is closed.

@@ -120,7 +120,7 @@ impl JournalBook {
 
     // What a collection by the reader covers and reports.
     #[tactic(auto, using(crate::proofs::RangeLaws::reader_of_windows))]
-    fn report(&self, alloc: Global, reader: u32) -> Result<Window, AllocError>
+    fn window(&self, alloc: Global, reader: u32) -> Result<Window, AllocError>
         requires { let book = self.now in
             windows_in_range book.facts book.entries book.marks book.facts.streams ≡ true }
         ensures { IfOk result (λ told.
@@ -193,10 +193,12 @@ impl Book for JournalBook {
         }
     }
 
-    fn window(&mut self, alloc: Global, reader: u32) -> Result<Window, AllocError> {
-        let told = self.report(alloc, reader)?;
+    fn report(&self, alloc: Global, reader: u32) -> Result<Window, AllocError> {
+        self.window(alloc, reader)
+    }
+
+    fn advance(&mut self, reader: u32) {
         self.move_mark(reader);
-        Ok(told)
     }
 
     // Its list is for its own answers alone.

@@ -111,17 +111,20 @@ impl Book for Marked {
         Ok(())
     }
 
-    fn window(&mut self, alloc: Global, reader: u32) -> Result<Window, AllocError> {
+    fn report(&self, alloc: Global, reader: u32) -> Result<Window, AllocError> {
         let streams = points_of(alloc, &self.tables, reader)?;
         let is_delta = is_delta(self.delta.as_slice(), reader);
-        let from = window_start(is_delta, self.marks[reader as usize]);
-        close_window(&mut self.tables, is_delta, reader);
-        self.marks[reader as usize] = self.count;
         Ok(Window {
-            from,
+            from: window_start(is_delta, self.marks[reader as usize]),
             mark: self.count,
             streams: Items::from_vec(streams),
         })
+    }
+
+    fn advance(&mut self, reader: u32) {
+        let is_delta = is_delta(self.delta.as_slice(), reader);
+        close_window(&mut self.tables, is_delta, reader);
+        self.marks[reader as usize] = self.count;
     }
 
     fn entries(&self) -> &[Entry] {

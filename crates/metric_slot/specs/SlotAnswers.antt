@@ -15,7 +15,7 @@ use Rattle.metric_safety.specs.SafeFacts.{IsJournal, IsSafeFacts}
 use Rattle.metric_safety.specs.WindowBounds.{IsReportWithin}
 use Rattle.metric_slot.specs.declared.seen.Seen.{Seen}
 use Rattle.metric_slot.specs.declared.told.Told.{Told}
-use Rattle.metric_slot.specs.Slots.{IsOwnReader, IsOwnRecorder}
+use Rattle.metric_slot.specs.Slots.{IsOfRun, IsOwnReader, IsOwnRecorder}
 
 -- # answer to a seat (profile) [AnswersRecorder, RefusesReader]
 -- `Stranger` exactly where the numbers are not its own, else the cell's answer, which is never
@@ -70,3 +70,10 @@ abbrev pub RefusesReader : {B : Type 0} → CellValue B → Facts → ℕ → Se
 RefusesReader c facts start seen reader Stranger = IsOwnReader c facts start seen reader → ⊥
 RefusesReader c facts start seen reader Memory = IsOwnReader c facts start seen reader
 RefusesReader c facts start seen reader other = ⊥
+
+-- what a report is refused: `Stranger` exactly where the facts or the start
+-- are not the cell's, else `Memory`
+abbrev pub RefusesReport : {B : Type 0} → CellValue B → Facts → ℕ → Refusal → Type 0
+RefusesReport c facts start Stranger = IsOfRun c facts start → ⊥
+RefusesReport c facts start Memory = IsOfRun c facts start
+RefusesReport c facts start other = ⊥

@@ -32,6 +32,12 @@ pub record IsOwnRecorder {B : Type 0} (c : CellValue B) (own : Facts) (told : To
   pub spent : slice_index c.spent recorder ≡ told.count
   pub amount : pos told.amount ≤ℤ amount_with told.count own.lo own.hi
 
+-- # own run (profile)
+-- The cell has the facts that the call brings, and the start of its run.
+pub record IsOfRun {B : Type 0} (c : CellValue B) (own : Facts) (began : ℕ) : Type 0 where
+  pub facts : c.facts ≡ own
+  pub start : c.start ≡ began
+
 -- # own reader (profile)
 -- The cell has the facts that the call brings and the start of its run, and the reader's last batch
 -- counted as many recordings as it has seen, at the time that it has seen.

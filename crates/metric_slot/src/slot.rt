@@ -5,9 +5,9 @@ ghost use Rattle.metric_core.specs.CellAnswers.{AnswersClose, AnswersGrant, Gain
 ghost use Rattle.metric_facts.specs.Facts.{in_bounds, is_allowed_set};
 ghost use Rattle.metric_safety.specs.SafeFacts.{IsSafeFacts};
 ghost use Rattle.metric_safety.specs.WindowBounds.{IsReportWithin};
-ghost use Rattle.metric_slot.specs.Slots.{IsCertified, IsOwnReader, IsOwnRecorder};
+ghost use Rattle.metric_slot.specs.Slots.{IsCertified, IsOfRun, IsOwnReader, IsOwnRecorder};
 ghost use Rattle.metric_slot.specs.Sightings.{seen_of};
-ghost use Rattle.metric_slot.specs.SlotAnswers.{AnswersGranter, AnswersRecorder, Continues, RefusesReader, ReportsJournal};
+ghost use Rattle.metric_slot.specs.SlotAnswers.{AnswersGranter, AnswersRecorder, Continues, RefusesReader, RefusesReport, ReportsJournal};
 ghost use Rattle.metric_slot.specs.Tellings.{HasRoom, told_more};
 
 use crate::safety::certified_facts_are_safe;
@@ -176,6 +176,41 @@ impl<B: Book> Slot<B> {
         let batch = self.cell.collect(alloc, reader, now)?;
         *seen = Seen::of(&batch);
         Ok(batch)
+    }
+
+    /// What a reader is told at a time in nanoseconds, in a run that started at another, as [`Slot::collect`] tells it.
+    /// Nothing changes: until the slot is advanced, the reader's next batch reports the same recordings again.
+    /// `Stranger` comes exactly where the cell's facts or its start are not these; the only other refusal is `Memory`.
+    pub fn report(
+        &self,
+        alloc: Global,
+        facts: &Facts,
+        start: u64,
+        reader: u32,
+        now: u64,
+    ) -> Result<Batch, Refusal>
+        requires { reader < length facts.now.delta }
+        ensures batch { IfOk result (λ batch. ReportsBatch B.stands self.now reader now batch) }
+        ensures own { OnOk result (IsOfRun self.now facts.now start) }
+        ensures refused { IfErr result (RefusesReport self.now facts.now start) }
+        ensures kept { CellKept B.stands self.now }
+    {
+        // For the proof alone: what a cell keeps.
+        let _ = self.cell.facts();
+        if !self.is_of(facts) || self.cell.start() != start {
+            return Err(Refusal::Stranger);
+        }
+        self.cell.report(alloc, reader, now)
+    }
+
+    /// Ends the reader's window with a batch of this time in nanoseconds: all recordings so far were reported to it.
+    /// Takes no memory.
+    pub fn advance(&mut self, reader: u32, time: u64)
+        requires { reader < length self.old.facts.delta }
+        ensures new { self.new ≡ with_batch self.old reader time self.new.book }
+        ensures stands { KeepsJournal B.stands self.old self.new }
+    {
+        self.cell.advance(reader, time);
     }
 
     /// Ends the recordings. `Closed` comes exactly where the instrument is closed.

@@ -10,6 +10,7 @@ use metric_history::Entry;
 use metric_marked::Marked;
 use metric_plan::Plan;
 use std::alloc::{AllocError, Global};
+use std::cell::Cell;
 use std::marker::Model;
 
 /// A book of running tables that says `Memory` to the first recording and to the first collection, each once.
@@ -18,7 +19,7 @@ struct Refusing {
     book: Marked,
     is_new: bool,
     refuses_recording: bool,
-    refuses_collection: bool,
+    refuses_collection: Cell<bool>,
 }
 
 impl Model for Refusing {
@@ -50,7 +51,7 @@ impl Book for Refusing {
             book: Marked::new(alloc, plan, instrument, seed)?,
             is_new: true,
             refuses_recording: true,
-            refuses_collection: true,
+            refuses_collection: Cell::new(true),
         })
     }
 
@@ -64,12 +65,15 @@ impl Book for Refusing {
         Ok(())
     }
 
-    fn window(&mut self, alloc: Global, reader: u32) -> Result<Window, AllocError> {
-        if self.refuses_collection {
-            self.refuses_collection = false;
+    fn report(&self, alloc: Global, reader: u32) -> Result<Window, AllocError> {
+        if self.refuses_collection.replace(false) {
             return Err(AllocError);
         }
-        self.book.window(alloc, reader)
+        self.book.report(alloc, reader)
+    }
+
+    fn advance(&mut self, reader: u32) {
+        self.book.advance(reader);
     }
 
     fn entries(&self) -> &[Entry] {

@@ -4,10 +4,10 @@ use Rattle.std.specs.Prelude.{slice_index_or}
 use Rattle.metric_facts.specs.Facts.{is_delta}
 use Rattle.metric_marked.specs.Marks.{ClosesWindow, StandsMarked}
 use Rattle.metric_marked.proofs.MarkLaws.{marked_moves}
-use Rattle.metric_marked.proofs.marked.MarkedBook.window.Goals as goal
+use Rattle.metric_marked.proofs.marked.MarkedBook.advance.Goals as goal
 
-pub returns-clause-stands : goal.returns-clause-stands
-returns-clause-stands c = λ facts journal marks stands.
+pub returns : goal.returns
+returns c = λ facts journal marks stands.
     let known = subst (λ b. StandsMarked b facts journal marks) (sym c.self.view_is) stands in
     let below : c.args.reader < length marks = omega (arith, c.requires.3.1, ap length c.requires.3.0.delta, ap length stands.delta, stands.one_each) in
     let delta : c.is_delta-is_delta.result ≡ is_delta facts c.args.reader =
