@@ -29,6 +29,8 @@ mod facts;
 #[cfg(test)]
 mod inputs;
 #[cfg(test)]
+mod lanes;
+#[cfg(test)]
 mod pages;
 #[cfg(test)]
 mod pages_written;

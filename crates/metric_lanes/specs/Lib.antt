@@ -1,0 +1,5 @@
+pub mod Joined
+pub mod Together
+pub mod Merging
+pub mod Gathering
+pub mod Lanes
