@@ -1,9 +1,9 @@
 -- What lanes report together, one after the other.
-use Rattle.std.proofs.Common.{◌≡◌, ℕ, zero, suc, ◌+◌, ◌*◌, ◌^◌, ◌<◌, ◌≤◌, ℤ, pos, negsuc, neg_ℤ, ◌*ℤ◌, ◌≤ℤ◌, Bool, true, false, ◌&&◌, cond, All, List, [], ◌∷◌, ◌++◌, Option, Some, None, length, map, take, drop, get_or, sum, refl, ap, sym, subst, ◌∙◌, arith, length-append, length-take, length-drop}
-use Rattle.std.specs.Prelude.{IfSome, IsTrue, FitsSigned, filter, max}
+use Rattle.std.proofs.Common.{◌≡◌, ℕ, zero, suc, ◌+◌, ◌*◌, ◌^◌, ◌<◌, ◌≤◌, ℤ, pos, negsuc, neg_ℤ, ◌*ℤ◌, ◌≤ℤ◌, Bool, true, false, cond, All, List, [], ◌∷◌, ◌++◌, Option, Some, None, length, map, take, drop, get_or, refl, ap, sym, subst, ◌∙◌, arith, length-append, length-take, length-drop}
+use Rattle.std.specs.Prelude.{IfSome, IsTrue, FitsSigned, filter}
 use Rattle.std.specs.Int.{w64, int_min, int_max}
 use Rattle.std.specs.List.{list_all, list_any}
-use Rattle.std.proofs.lemmas.Bool.{and_from, and_parts, true≢false}
+use Rattle.std.proofs.lemmas.Bool.{and_from, and_parts}
 use Rattle.std.proofs.lemmas.Int.{ints, clamps}
 use Rattle.std.proofs.lemmas.List.{take-append-drop}
 use Rattle.std.proofs.lemmas.List.Elements.{All-append, All-cons, All-filter, All-map, All-nil, All-tail}
@@ -20,7 +20,6 @@ use Rattle.metric_facts.specs.declared.facts.Facts.{Facts}
 use Rattle.metric_facts.specs.declared.facts.NumberedStream.{NumberedStream}
 use Rattle.metric_facts.specs.Facts.{is_delta, is_of_reader}
 use Rattle.metric_history.specs.Aggregations.{aggregation_of, stream_aggregation}
-use Rattle.metric_history.specs.declared.batch.Batch.{Batch}
 use Rattle.metric_history.specs.declared.batch.Point.{Point}
 use Rattle.metric_history.specs.declared.batch.StreamPoints.{StreamPoints}
 use Rattle.metric_history.specs.declared.entry.Entry.{Entry}
@@ -28,14 +27,13 @@ use Rattle.metric_history.specs.Points.{ascending, overflow, point, points, repo
 use Rattle.metric_history.specs.Series.{belongs, held, rows}
 use Rattle.metric_history.specs.Windows.{window}
 use Rattle.metric_safety.specs.SafeFacts.{IsJournal, IsSafeFacts, IsSafeStream, are_admitted, is_admitted, total}
-use Rattle.metric_safety.specs.WindowBounds.{BoundsJournals, IsBounded, IsHistogramWithin, IsSumWithin, IsValueInRange, IsValueWithin}
+use Rattle.metric_safety.specs.WindowBounds.{BoundsJournals, IsBounded, IsSumWithin, IsValueInRange, IsValueWithin}
 use Rattle.metric_slot.specs.SlotAnswers.{Continues, ReportsJournal}
-use Rattle.metric_slot.specs.declared.seen.Seen.{Seen}
 use Rattle.metric_views.specs.declared.stream.Stream.{Stream}
 use Rattle.metric_views.specs.declared.stream.StreamAggregation.{StreamAggregation}
 use Rattle.metric_views.specs.declared.stream.StreamAggregation.TheVariants as aggregations
 use Rattle.metric_lanes.specs.Gathering.{Gathers, GoTogether, of_both}
-use Rattle.metric_lanes.specs.Joined.{Interleaves, none, left, right, all_join, joined, joins}
+use Rattle.metric_lanes.specs.Joined.{Interleaves, none, left, right, joined, joins}
 use Rattle.metric_lanes.specs.Together.{ArePutTogether, AreStreamsTogether, CanJoinStreams, FitTogether, HasSet, HoldsJournals, IsHeld, IsRising, is_of, joined_at, value_at}
 use Rattle.metric_lanes.specs.declared.gathered.Asked.{Asked}
 use Rattle.metric_lanes.specs.declared.gathered.Gathered.{Gathered}

@@ -1,19 +1,18 @@
 -- What two lanes report of a series together is what every interleaving reports.
-use Rattle.std.proofs.Common.{◌≡◌, ℕ, zero, suc, ◌+◌, ◌<◌, ◌≤◌, ℤ, pos, ◌+ℤ◌, Bool, true, false, cond}
-use Rattle.std.proofs.Common.{List, [], ◌∷◌, length, map, refl, sym, ap, ◌∙◌, arith, Option, Some, None}
-use Rattle.std.specs.Prelude.{fold, count_by, ◌==◌}
+use Rattle.std.proofs.Common.{◌≡◌, ℕ, ◌+◌, ◌<◌, ℤ, pos, ◌+ℤ◌, Bool, true, false, cond}
+use Rattle.std.proofs.Common.{List, [], ◌∷◌, length, map, refl, sym, ap, ◌∙◌, arith, Option, Some}
+use Rattle.std.specs.Prelude.{fold, ◌==◌}
 use Rattle.std.specs.Int.{int_min, int_max}
-use Rattle.std.specs.List.{range_with_len, sum_by}
+use Rattle.std.specs.List.{range_with_len}
 use Rattle.std.proofs.lemmas.List.Sums.{sum_by-cons}
 use Rattle.std.proofs.lemmas.Bool.{true≢false}
 use Rattle.std.proofs.lemmas.Int.{ints, clamps}
-use Rattle.metric_aggregate.specs.Aggregation.{Aggregation, SumAggregation, LastValueAggregation}
+use Rattle.metric_aggregate.specs.Aggregation.{SumAggregation, LastValueAggregation}
 use Rattle.metric_aggregate.specs.Aggregation.{HistogramAggregation}
-use Rattle.metric_aggregate.specs.Value.{value_of, sum_of, least_or, greatest_or, bucket_of}
-use Rattle.metric_aggregate.specs.Value.{bucket_count, bucket_counts, kept_sum}
-use Rattle.metric_aggregate.specs.declared.point_value.PointValue.{PointValue}
-use Rattle.metric_aggregate.specs.declared.point_value.PointValue.TheVariants.{Sum, Last, Buckets}
-use Rattle.metric_lanes.specs.Joined.{Interleaves, none, left, right, added, sums, joined, joins, JoinsValues}
+use Rattle.metric_aggregate.specs.Value.{sum_of, least_or, greatest_or, bucket_of}
+use Rattle.metric_aggregate.specs.Value.{bucket_count, kept_sum}
+use Rattle.metric_aggregate.specs.declared.point_value.PointValue.TheVariants.{Sum, Buckets}
+use Rattle.metric_lanes.specs.Joined.{Interleaves, none, left, right, added, sums, JoinsValues}
 
 -- a sum from a start
 fold_from : (start : ℤ) (xs : List ℤ) → fold ◌+ℤ◌ start xs ≡ start +ℤ sum_of xs

@@ -1,17 +1,16 @@
 -- A batch of two lanes, put together, is that of every order of their recordings.
-use Rattle.std.proofs.Common.{◌≡◌, ℕ, ◌+◌, ◌≤◌, Bool, true, false, cond, List, [], ◌∷◌, ◌++◌, length}
-use Rattle.std.proofs.Common.{take, drop, refl, ap, sym, subst, ◌∙◌, arith, length-take, length-drop}
+use Rattle.std.proofs.Common.{◌≡◌, ℕ, ◌+◌, Bool, true, false, cond, List, ◌++◌}
+use Rattle.std.proofs.Common.{take, drop, refl, ap, sym, subst, arith, length-take}
 use Rattle.std.specs.Prelude.{max}
 use Rattle.std.proofs.lemmas.List.{take-append-drop}
-use Rattle.metric_facts.specs.declared.facts.FactsFields.{FactsFields as Facts}
 use Rattle.metric_facts.specs.Facts.{is_delta}
 use Rattle.metric_history.specs.declared.entry.Entry.{Entry}
-use Rattle.metric_history.specs.Answers.{Past, covered}
+use Rattle.metric_history.specs.Answers.{covered}
 use Rattle.metric_history.specs.Windows.{window}
 use Rattle.metric_lanes.specs.Joined.{Interleaves, none, left, right}
 use Rattle.metric_lanes.proofs.JoinedLaws.{lengths_join}
 use Rattle.metric_lanes.proofs.RisingLaws.{report_together}
-use Rattle.metric_lanes.specs.Lanes.{AreLanes, IsTogether, BatchesTogether}
+use Rattle.metric_lanes.specs.Lanes.{BatchesTogether}
 
 appends_join : {X : Type 0} {us vs ws xs ys zs : List X} → Interleaves us vs ws
     → Interleaves xs ys zs → Interleaves (us ++ xs) (vs ++ ys) (ws ++ zs)

@@ -5,3 +5,4 @@ pub mod MergingLaws
 pub mod AddingLaws
 pub mod GatheringLaws
 pub mod LanesLaws
+pub mod LaneLaws

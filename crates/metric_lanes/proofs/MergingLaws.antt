@@ -1,5 +1,5 @@
 -- What merging gives is the points put together.
-use Rattle.std.proofs.Common.{◌≡◌, Ordering, Less, Equal, Greater, ℕ, zero, suc, ◌+◌, ◌<◌, ◌≤◌, All, Bool, true, false, cond, List, [], ◌∷◌, ◌++◌, Option, Some, None, length, get_or, append_assoc, refl, sym, ap, subst, ◌∙◌, arith}
+use Rattle.std.proofs.Common.{◌≡◌, Less, Equal, Greater, ℕ, ◌+◌, ◌<◌, ◌≤◌, All, Bool, true, false, cond, List, [], ◌∷◌, ◌++◌, Option, Some, None, length, get_or, append_assoc, refl, sym, ap, subst, ◌∙◌, arith}
 use Rattle.std.specs.Prelude.{IfOk, Result, Ok, Err}
 use Rattle.std.specs.Ordering.{ordering_reverse}
 use Rattle.std.specs.declared.alloc.AllocError.{AllocError}
@@ -14,7 +14,7 @@ use Rattle.metric_safety.specs.WindowBounds.{IsValueInRange}
 use Rattle.metric_lanes.specs.Joined.{joined}
 use Rattle.metric_lanes.specs.Merging.{Merges, done, first, second, both, IsNext, joined_point, next_of, rest_of, set_order}
 use Rattle.metric_lanes.specs.declared.together.Next.{Next}
-use Rattle.metric_lanes.specs.Together.{AreTogether, ArePutTogether, AreStreamsTogether, CanJoin, CanJoinStreams, HasSet, IsBefore, IsBeforeAll, IsBeforeFirst, IsRising, is_of, joined_at, value_at}
+use Rattle.metric_lanes.specs.Together.{AreTogether, ArePutTogether, AreStreamsTogether, CanJoin, CanJoinStreams, HasSet, IsBefore, IsBeforeAll, IsRising, is_of, joined_at, value_at}
 use Rattle.metric_lanes.proofs.RisingLaws.{first_before, nothing_of}
 
 at_nothing : (a : Option PointValue) (v : PointValue) → a ≡ None → Some v ≡ joined_at a (Some v)

@@ -1,6 +1,6 @@
 -- What a stream reports rises by set keys, and points that rise are known by what they say of each series.
-use Rattle.std.proofs.Common.{◌≡◌, Ordering, Less, Equal, Greater, ℕ, zero, suc, ◌+◌, ◌≤◌, ◌<◌, Bool, true, false, not, ◌||◌, cond, List, [], ◌∷◌, ◌++◌, Option, Some, None, length, map, get_or, refl, sym, ap, subst, ◌∙◌, arith}
-use Rattle.std.specs.Prelude.{IsTrue, fold}
+use Rattle.std.proofs.Common.{◌≡◌, Ordering, Less, Equal, Greater, ℕ, ◌+◌, Bool, true, false, not, ◌||◌, cond, List, [], ◌∷◌, ◌++◌, Option, Some, None, map, get_or, refl, sym, ap, subst, ◌∙◌, arith}
+use Rattle.std.specs.Prelude.{fold}
 use Rattle.std.specs.Cmp.{nat_cmp_is}
 use Rattle.std.specs.Cmp.Lexicographic.{nat_list_eq_equiv, slice_cmp}
 use Rattle.std.specs.List.{AllByRecursion, IsDistinct, list_any}
@@ -14,16 +14,14 @@ use Rattle.std.proofs.lemmas.Map.Keys.{IsDistinct-IsPermutation, IsDistinct-push
 use Rattle.std.proofs.lemmas.Map.Lookups.{exact_bytes}
 use Rattle.metric_aggregate.specs.declared.point_value.PointValue.{PointValue}
 use Rattle.metric_history.specs.AscendingLaws.{ascending-IsSorted}
-use Rattle.metric_history.specs.Aggregations.{stream_aggregation}
 use Rattle.metric_history.specs.declared.batch.Point.{Point}
 use Rattle.metric_history.specs.declared.entry.Entry.{Entry}
 use Rattle.metric_history.specs.PointLaws.{ascending-IsPermutation}
 use Rattle.metric_history.specs.Points.{ascending, overflow, point, points}
 use Rattle.metric_history.specs.Series.{all_series, belongs, distinct, found_with, has, held, series}
-use Rattle.metric_history.specs.SeriesLaws.{has-distinct, has_all_series, key_is_same, same_key}
+use Rattle.metric_history.specs.SeriesLaws.{has-distinct, key_is_same, same_key}
 use Rattle.metric_views.specs.declared.stream.Stream.{Stream}
-use Rattle.metric_lanes.specs.Joined.{Interleaves, joins}
-use Rattle.metric_lanes.specs.Together.{ArePutTogether, HasSet, IsBefore, IsBeforeAll, IsBeforeFirst, IsHeld, IsRising, ReportTogether, TogetherOnce, is_of, joined_at, value_at}
+use Rattle.metric_lanes.specs.Together.{HasSet, IsBefore, IsBeforeAll, IsBeforeFirst, IsHeld, IsRising, ReportTogether, TogetherOnce, is_of, value_at}
 use Rattle.metric_lanes.proofs.TogetherLaws.{each_together}
 
 -- ---- distinct keys in ascending order rise strictly

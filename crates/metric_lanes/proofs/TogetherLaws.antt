@@ -1,6 +1,6 @@
 -- What a stream reports of every interleaving of two lanes.
-use Rattle.std.proofs.Common.{◌≡◌, ℕ, ◌+◌, ◌<◌, ◌≤◌, ℤ, Bool, true, false, ◌||◌, cond, List, [], ◌∷◌}
-use Rattle.std.proofs.Common.{◌++◌, length, map, take, Option, Some, None, refl, ap, sym, subst, ◌∙◌, arith}
+use Rattle.std.proofs.Common.{◌≡◌, ℕ, ◌<◌, Bool, true, false, ◌||◌, cond, List, [], ◌∷◌}
+use Rattle.std.proofs.Common.{◌++◌, length, map, Option, Some, None, refl, ap, sym, subst, ◌∙◌, arith}
 use Rattle.std.specs.Prelude.{IsTrue, filter}
 use Rattle.std.specs.List.{list_any}
 use Rattle.std.specs.Str.{bytes_eq}
@@ -10,16 +10,15 @@ use Rattle.std.proofs.lemmas.Bool.{true≢false}
 use Rattle.metric_aggregate.specs.Value.{value_of}
 use Rattle.metric_aggregate.specs.declared.point_value.PointValue.{PointValue}
 use Rattle.metric_history.specs.declared.entry.Entry.{Entry}
-use Rattle.metric_history.specs.declared.batch.Point.{Point}
 use Rattle.metric_views.specs.declared.stream.Stream.{Stream}
 use Rattle.metric_history.specs.Aggregations.{stream_aggregation}
 use Rattle.metric_history.specs.Points.{ascending, overflow, point, points, values}
 use Rattle.metric_history.specs.PointLaws.{ascending-IsPermutation}
 use Rattle.metric_history.specs.Series.{all_series, belongs, distinct, has, held, rows, series}
 use Rattle.metric_history.specs.SeriesLaws.{has-distinct, same_key}
-use Rattle.metric_lanes.specs.Joined.{Interleaves, none, left, right, joined, joins}
+use Rattle.metric_lanes.specs.Joined.{Interleaves, none, left, right, joins}
 use Rattle.metric_lanes.proofs.JoinedLaws.{joins_values}
-use Rattle.metric_lanes.specs.Together.{AreTogether, IsHeld, is_of, joined_at, value_at}
+use Rattle.metric_lanes.specs.Together.{AreTogether, IsHeld, joined_at, value_at}
 
 maps_join : {X Y : Type 0} (f : X → Y) {xs ys zs : List X} → Interleaves xs ys zs
     → Interleaves (map f xs) (map f ys) (map f zs)

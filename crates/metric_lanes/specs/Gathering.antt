@@ -1,7 +1,8 @@
 -- What the lanes looked at so far report together, and what a reader is then told.
-use Rattle.std.specs.Prelude.{◌≡◌, ◌+◌, ◌≤◌, true, List, max}
+use Rattle.std.specs.Prelude.{◌≡◌, ◌+◌, ◌≤◌, true, List, max, slice_index, slice_index_or}
 use Rattle.metric_contents.specs.declared.refusal.Refusal.{Refusal}
 use Rattle.metric_contents.specs.declared.refusal.Refusal.TheVariants.{Stranger, Memory}
+use Rattle.metric_core.specs.Cells.{CellValue}
 use Rattle.metric_facts.specs.declared.facts.Facts.{Facts}
 use Rattle.metric_history.specs.declared.batch.Batch.{Batch}
 use Rattle.metric_history.specs.declared.batch.StreamPoints.{StreamPoints}
@@ -20,6 +21,18 @@ pub record Gathers (own : Facts) (g : Gathered) : Type 0 where
   pub continues : Continues own g.asked.start g.asked.reader g.last g.batch
   pub journal : ReportsJournal own g.asked.reader g.last.mark g.batch
   pub time : g.batch.time ≡ max g.asked.now g.last.time
+
+-- # report of a lane (SDK, collect)
+-- The batch that a lane's cell tells, with the reader's last batch of that lane.
+abbrev pub lane_of : {B : Type 0} → CellValue B → Asked → Batch → Gathered
+lane_of c asked told = record {
+  asked = asked;
+  last = record {
+    mark = slice_index c.marks asked.reader;
+    time = slice_index_or c.times asked.reader c.start;
+  };
+  batch = told;
+}
 
 -- # lanes that go together (profile) [GoTogether, of_both, RefusesLane]
 -- The instrument's values join, the reader's last batch of both is of one time, and they have no

@@ -7,7 +7,7 @@ use Rattle.metric_aggregate.specs.Aggregation.{Aggregation, SumAggregation, Last
 use Rattle.metric_aggregate.specs.Aggregation.{HistogramAggregation}
 use Rattle.metric_aggregate.specs.Value.{value_of}
 use Rattle.metric_aggregate.specs.declared.point_value.PointValue.{PointValue}
-use Rattle.metric_aggregate.specs.declared.point_value.PointValue.TheVariants.{Sum, Last, Buckets}
+use Rattle.metric_aggregate.specs.declared.point_value.PointValue.TheVariants.{Sum, Buckets}
 use Rattle.metric_facts.specs.declared.facts.FactsFields.{FactsFields as Facts}
 use Rattle.metric_facts.specs.declared.facts.NumberedStream.{NumberedStream}
 use Rattle.metric_history.specs.Aggregations.{stream_aggregation}

@@ -1,8 +1,6 @@
 -- When one past of an instrument is that of two lanes, and what a batch then is.
-use Rattle.std.specs.Prelude.{◌≡◌, ◌+◌, ◌≤◌, ℕ, IsTrue, List, drop, length, take}
+use Rattle.std.specs.Prelude.{◌≡◌, ◌+◌, ◌≤◌, ℕ, IsTrue, drop, length, take}
 use Rattle.metric_facts.specs.declared.facts.FactsFields.{FactsFields as Facts}
-use Rattle.metric_history.specs.declared.batch.Batch.{Batch}
-use Rattle.metric_history.specs.declared.entry.Entry.{Entry}
 use Rattle.metric_history.specs.Aggregations.{stream_aggregation}
 use Rattle.metric_history.specs.Answers.{Past, batch, covered}
 use Rattle.metric_history.specs.Points.{points}

@@ -2,20 +2,22 @@
 ghost use Rattle.std.specs.Prelude.{◌≡◌, ◌≢◌, ◌↔◌, ◌+◌, ◌≤◌, ◌<◌, ◌^◌, true, IfOk, IfErr, IsTrue, OnOk, OnErr, FitsSigned};
 ghost use Rattle.std.specs.Int.{w64};
 ghost use Rattle.metric_facts.specs.declared.facts.Facts.{Facts};
+ghost use Rattle.metric_core.specs.CellAnswers.{ReportsBatch};
 ghost use Rattle.metric_safety.specs.SafeFacts.{IsSafeFacts, total as total_of};
 ghost use Rattle.metric_slot.specs.Sightings.{seen_of};
-ghost use Rattle.metric_lanes.specs.Gathering.{Gathers, GoTogether, IsTold, RefusesLane, of_both};
+ghost use Rattle.metric_lanes.specs.Gathering.{Gathers, GoTogether, IsTold, RefusesLane, lane_of, of_both};
 ghost use Rattle.metric_lanes.specs.Joined.{all_join as values_join, joins as value_joins};
 ghost use Rattle.metric_lanes.specs.Together.{AreStreamsTogether};
 ghost use Rattle.metric_history.specs.Aggregations.{stream_aggregation};
 
 use crate::together::streams_together;
 use metric_base::Items;
+use metric_book::Book;
 use metric_contents::Refusal;
 use metric_facts::{Facts, NumberedStream};
 use metric_history::{Batch, StreamPoints};
 use metric_safety::laws::journals_are_bounded;
-use metric_slot::{Seen, journal_reports_are_within};
+use metric_slot::{Seen, Slot, journal_reports_are_within};
 use metric_views::StreamAggregation;
 use std::alloc::{AllocError, Global};
 
@@ -42,6 +44,21 @@ pub struct Gathered {
 }
 
 impl Gathered {
+    /// What one lane reports: the batch that its slot tells of what was asked, before the slot moves on.
+    pub fn of_lane<B: Book>(slot: &Slot<B>, asked: Asked, batch: Batch) -> Gathered
+        requires start { slot.now.start ≡ asked.start }
+        requires reports { ReportsBatch B.stands slot.now asked.reader asked.now batch }
+        ensures lane { result ≡ lane_of slot.now asked batch }
+        ensures gathers { Gathers slot.now.facts result }
+    {
+        let cell = slot.cell();
+        let last = Seen {
+            mark: cell.mark_of(asked.reader),
+            time: cell.time_of(asked.reader),
+        };
+        Gathered { asked, last, batch }
+    }
+
     /// Puts one more lane of the instrument to these (Metrics SDK, collect). `Stranger` comes exactly where the reader's
     /// last batch of that lane is of another time, both have more recordings than the budgets and the spare allow, or
     /// a stream reports last values, of which none says which is the later one. The only other refusal is `Memory`.

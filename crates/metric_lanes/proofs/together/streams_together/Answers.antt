@@ -1,5 +1,4 @@
 -- none is left
-use Rattle.std.proofs.Common.{List, [], ◌∷◌, arith}
 use Rattle.metric_lanes.proofs.MergingLaws.{streams_all}
 use Rattle.metric_lanes.proofs.together.streams_together.Goals as goal
 
