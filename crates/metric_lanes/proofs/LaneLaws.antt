@@ -1,6 +1,6 @@
 -- What one lane reports is gathered.
-use Rattle.std.proofs.Common.{◌≡◌, ℕ, ◌≤◌, sym, ap, ◌∙◌, arith}
-use Rattle.std.specs.Prelude.{slice_index_or, if◌then◌else◌}
+use Rattle.std.proofs.Common.{◌≡◌, ℕ, sym, ap, subst, ◌∙◌, arith}
+use Rattle.std.specs.Prelude.{slice_index, slice_index_or, if◌then◌else◌}
 use Rattle.metric_book.specs.Journals.{Standing}
 use Rattle.metric_core.specs.BudgetLaws.{kept_journal}
 use Rattle.metric_core.specs.Cells.{CellKept, CellValue}
@@ -34,3 +34,14 @@ lane_gathers stands c asked told k began reports =
       };
       time = ap (λ (b : Batch). b.time) is;
     }
+
+-- the same, where these numbers were read of it
+pub read_gathers : {B : Type 0} (stands : B → Standing) (c d : CellValue B) (asked : Asked) (told : Batch) (m t : ℕ) → CellKept stands c → c.start ≡ asked.start
+    → ReportsBatch stands c asked.reader asked.now told → d ≡ c → m ≡ slice_index d.marks asked.reader → t ≡ slice_index_or d.times asked.reader d.start
+    → Gathers c.facts (record { asked = asked; last = record { mark = m; time = t }; batch = told })
+read_gathers {B} stands c d asked told m t k began reports same mark time =
+    subst (λ (n : ℕ). Gathers c.facts (record { asked = asked; last = record { mark = n; time = t }; batch = told }))
+    (sym (mark ∙ ap (λ (x : CellValue B). slice_index x.marks asked.reader) same))
+    (subst (λ (n : ℕ). Gathers c.facts (record { asked = asked; last = record { mark = slice_index c.marks asked.reader; time = n }; batch = told }))
+    (sym (time ∙ ap (λ (x : CellValue B). slice_index_or x.times asked.reader x.start) same))
+    (lane_gathers stands c asked told k began reports))

@@ -110,7 +110,8 @@ fn record<R: Abort>(
     let slot = lane_of(lanes, lane);
     let is_own = slot.is_of(facts);
     let number = u32::from(recorder);
-    slot.record(is_own, facts, &mut told, number, set, value).or_fail(rt);
+    slot.record(is_own, facts, &mut told, number, set, value)
+        .or_fail(rt);
     lanes.told[recorder as usize] = told;
 }
 
@@ -132,7 +133,14 @@ fn report<R: Abort>(
         time: cell.time_of(asked.reader),
     };
     let mut seen = last;
-    let answer = slot.collect(alloc, facts, asked.start, &mut seen, asked.reader, asked.now);
+    let answer = slot.collect(
+        alloc,
+        facts,
+        asked.start,
+        &mut seen,
+        asked.reader,
+        asked.now,
+    );
     let batch = answer.or_fail(rt);
     Gathered { asked, last, batch }
 }
@@ -157,6 +165,7 @@ fn gathered<R: Abort>(
 
 // Of each recording its recorder, the value of its key and its value; a collection stands between the two lists.
 const BEFORE: &[(u8, u16, i64)] = &[(0, 1, 7), (1, 3, 5), (2, 1, 11), (0, 3, 0)];
+
 const AFTER: &[(u8, u16, i64)] = &[(2, 2, 50), (1, 1, 6), (0, 1, 10), (0, 3, 4), (1, 1, 1)];
 
 // The batches of a reader, of recorders that record in these lanes.
