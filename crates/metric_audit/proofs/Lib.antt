@@ -2,3 +2,5 @@ pub mod SlipLaws
 pub mod ReplayLaws
 pub mod BatchLaws
 pub mod PlanLaws
+pub mod SortedLaws
+pub mod RunLaws

@@ -3,3 +3,4 @@ pub mod Slips
 pub mod Batches
 pub mod Replays
 pub mod Audits
+pub mod RunAudits

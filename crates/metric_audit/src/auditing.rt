@@ -3,6 +3,7 @@ ghost use Rattle.std.specs.Prelude.{◌≡◌, ◌<◌, length};
 ghost use Rattle.metric_audit.specs.Audits.{AuditsInstrument};
 
 use crate::batches::first_wrong;
+use crate::entries::first_impossible;
 use crate::fault::AuditFault;
 use crate::replay::Run;
 use crate::slips::first_unlike;
@@ -18,12 +19,17 @@ use std::alloc::Global;
 ///
 /// The journal is the instrument's accepted recordings since the start, in nanoseconds, oldest first. The slips stand in
 /// the order of the recorders. Batches of several readers may stand in any order, those of one reader in the order in
-/// which they were told. `Slips` comes before `Batch`: the least recorder whose slips are others, then the place of the
-/// first batch that is wrong. No batch is right that adds a recording which no run can have accepted: of no set that the
-/// instrument allows, with a value out of range, or one that takes a series of the reader out of range. An entry of a recorder
-/// that the catalogue lacks is a fault of its slips, since it has none.
+/// which they were told. A reader need not have told of the whole journal: only what its batches say is compared.
 ///
-/// The journal is read once for the slips, and again once for each reader that has batches.
+/// # Errors
+///
+/// `Slips` with the least recorder whose slips are others; an entry of a recorder that the catalogue lacks is such a
+/// fault, since that has no slips. Then `Entry` with the place of the first entry that the instrument would have
+/// refused, which no run can have: of no set that it allows, or with a value out of range. Then `Batch` with the place
+/// of the first batch that is wrong; so is one that adds a recording which takes a series of its reader out of range.
+/// `Memory` comes in the place of any.
+///
+/// The journal is read twice, and again once for each reader that has batches.
 pub fn audit(
     alloc: Global,
     plan: &Plan,
@@ -44,12 +50,16 @@ pub fn audit(
     if let Some(recorder) = first_unlike(alloc, entries, slips)? {
         return Err(AuditFault::Slips { recorder });
     }
+    let facts = plan.facts(instrument);
+    if let Some(at) = first_impossible(facts, entries) {
+        return Err(AuditFault::Entry { at });
+    }
     let run = Run {
         instrument,
         start,
         entries,
     };
-    let at = first_wrong(alloc, plan.facts(instrument), &run, batches)?;
+    let at = first_wrong(alloc, facts, &run, batches)?;
     if at < batches.len() {
         return Err(AuditFault::Batch { at });
     }

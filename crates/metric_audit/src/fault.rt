@@ -2,7 +2,7 @@
 use std::alloc::AllocError;
 use thiserror::Error;
 
-/// What does not agree with a journal. The slips are tried before the batches.
+/// What does not agree with a journal. The slips are tried first, then the entries, then the batches.
 #[derive(Clone, Copy, Debug, PartialEq, Eq, Drop, Error)]
 pub enum AuditFault {
     /// The entries of this recorder are not its slips; of several such recorders, the least.
@@ -20,6 +20,13 @@ pub enum AuditFault {
     /// Memory was refused.
     #[error("3 Memory")]
     Memory,
+    /// The entry at this place, counted from 0, is the first that the instrument would have refused: its set is none
+    /// that the catalogue allows, or its value is out of range. No run can have such a journal.
+    #[error("4 Entry at {at}")]
+    Entry {
+        /// The entry's place in the journal.
+        at: usize,
+    },
 }
 
 impl From<AllocError> for AuditFault {

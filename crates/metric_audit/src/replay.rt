@@ -1,14 +1,14 @@
 //! The journal of one reader, read again.
-ghost use Rattle.std.specs.Prelude.{◌≡◌, ◌<◌, ◌&&◌, true, length, IfOk, OnOk, [], ◌∷◌};
+ghost use Rattle.std.specs.Prelude.{◌≡◌, ◌<◌, true, length, IfOk, OnOk, [], ◌∷◌};
 ghost use Rattle.metric_audit.specs.Batches.{is_headed};
-ghost use Rattle.metric_facts.specs.Facts.{in_bounds, is_allowed_set};
 ghost use Rattle.metric_audit.specs.Replays.{GoesOn, HasRoomFor, IsFirstWrongOf, IsReplayed, JudgesBatch, ReportsPoints, TakesWhereIt, are_of_reader};
 ghost use Rattle.metric_book.specs.Journals.{HasReader, MovesMark, no_marks};
 
+use crate::entries::is_admitted;
 use crate::same::are_same_streams;
 use metric_book::Book;
 use metric_contents::Refusal;
-use metric_facts::{Facts, is_allowed_set};
+use metric_facts::Facts;
 use metric_history::{Batch, Entry, StreamPoints};
 use std::alloc::{AllocError, Global};
 
@@ -28,14 +28,6 @@ pub(crate) struct Run<'a> {
 struct Last {
     mark: u64,
     time: u64,
-}
-
-// Whether a recording is of a set that the instrument allows, with a value in range.
-fn is_admitted(facts: &Facts, entry: &Entry) -> bool
-    ensures { result
-        ≡ (is_allowed_set facts.now entry.now.set && in_bounds facts.now entry.now.value) }
-{
-    is_allowed_set(facts, &entry.set) && facts.admits(&entry.value)
 }
 
 // Takes a recording, where it may follow.

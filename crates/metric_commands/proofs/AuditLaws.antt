@@ -1,15 +1,15 @@
 -- A legal history is audited: the slips that its events make are the entries of each journal, and each batch is right.
 use Rattle.std.proofs.Common.{◌≡◌, ℕ, zero, suc, ◌+◌, ◌-◌, ◌<◌, ◌≤◌, ◌≢◌, ℤ, Bool, true, false, ◌&&◌, not, cond, max, List, [], ◌∷◌, ◌++◌, length, map, take, drop, Option, Some, None, Result, Ok, Err, ◌⊎◌, inl, inr, get_or, refl, sym, ap, subst, ◌∙◌, append_assoc, arith}
 use Rattle.std.specs.Prelude.{filter, slice_get, slice_index, slice_range, nat_le, nat_lt, ◌==◌, if◌then◌else◌}
-use Rattle.std.specs.List.{list_all}
+use Rattle.std.specs.List.{list_all, position_from}
 use Rattle.std.specs.Result.{result_unwrap_or}
 use Rattle.std.proofs.lemmas.Bool.{and_from, and_parts, cases_lt, eq-eqb, eqb-true, false≢true, ltb-true, ne_eqb}
 use Rattle.std.proofs.lemmas.Bool.Decides.{nat_tests}
 use Rattle.std.proofs.lemmas.Grind.{fold-append}
 use Rattle.std.proofs.lemmas.List.{append-nil, get_or_past, length-append, length-drop, length-map, take-append-le, drop-append-le, take-append-drop, take_all, drop_all, map-append}
 use Rattle.std.proofs.lemmas.List.Elements.{filter-append}
-use Rattle.std.proofs.lemmas.Option.{slice_get-get_or}
-use Rattle.metric_audit.specs.Audits.{Audits, AuditsInstrument}
+use Rattle.std.proofs.lemmas.Option.{none-some, slice_get-get_or}
+use Rattle.metric_audit.specs.Audits.{Audits, AuditsInstrument, first_impossible, is_possible}
 use Rattle.metric_audit.specs.Batches.{AreAllRight, IsRight, each_may_follow, is_headed, mark_after, may_follow, time_after}
 use Rattle.metric_audit.specs.Slips.{AreEntriesOf}
 use Rattle.metric_audit.specs.declared.fault.AuditFault.{AuditFault}
@@ -328,6 +328,36 @@ agrees_with_slips run start i own o h legal slips s r = elim (cases_lt r (length
   | inr over ↦ strangers_have_none run start i own o h legal r (omega (arith, over, s.one_each, o.budgets)) ∙ sym (get_or_past slips r [] over)
 ]
 
+-- ---- entries
+
+-- where none passes a test, nor does the next, none of the longer list does
+none_more : {X : Type 0} (p : X → Bool) (n : ℕ) (xs : List X) (x : X) → position_from p n xs ≡ None → p x ≡ false → position_from p n (xs ++ x ∷ []) ≡ None
+none_more p n [] x none last = rw last refl
+none_more p n (y ∷ ys) x none last = at (p y) none
+  where
+    at : (b : Bool) → cond b (Some n) (position_from p (n + 1) ys) ≡ None → cond b (Some n) (position_from p (n + 1) (ys ++ x ∷ [])) ≡ None
+    at true some = some
+    at false later = none_more p (n + 1) ys x later last
+
+possible_step : (run : RunFacts) (start : ℕ) (h : History) (i : ℕ) (own : Facts) (event : Event) (reply : Reply) → Happens run start h i own event reply
+    → first_impossible own (accepted run h i) ≡ None
+    → first_impossible own (accepted run h i ++ added_by run i event reply) ≡ None
+possible_step run start h i own event reply (inl a) before =
+    ap (λ (l : List Entry). first_impossible own (accepted run h i ++ l)) a.adds
+    ∙ none_more (λ (e : Entry). not (is_possible own e)) 0 (accepted run h i) a.entry before (ap not (and_from (is_allowed_set own a.entry.set) _ a.allowed a.ranged))
+possible_step run start h i own event reply (inr (inl t)) before =
+    ap (λ (l : List Entry). first_impossible own (accepted run h i ++ l)) t.adds
+    ∙ ap (first_impossible own) (append-nil (accepted run h i)) ∙ before
+possible_step run start h i own event reply (inr (inr q)) before =
+    ap (λ (l : List Entry). first_impossible own (accepted run h i ++ l)) q.adds
+    ∙ ap (first_impossible own) (append-nil (accepted run h i)) ∙ before
+
+-- Each recording that a legal history accepts is possible.
+pub none_impossible : (run : RunFacts) (start : ℕ) (i : ℕ) (own : Facts) → IsOwn run i own → (h : History) → IsLegal run start h → first_impossible own (accepted run h i) ≡ None
+none_impossible run start i own o [] legal = refl
+none_impossible run start i own o (a ∷ older) legal =
+    possible_step run start older i own a.event a.reply (happens run start older i own a.event a.reply o legal.1) (none_impossible run start i own o older legal.0)
+
 -- ---- batches
 
 -- each recording of a longer list may follow
@@ -595,7 +625,8 @@ never_fails : (run : RunFacts) (start : ℕ) (i : ℕ) (own : Facts) (fault : Au
     → fault ≢ audits.Memory → EndsAudit run start (accepted run h i) h i own (Err fault) → ⊥
 never_fails run start i own (audits.Slips recorder) o h legal other e =
     e.ends.unlike (agrees_with_slips run start i own o h legal e.slips e.made recorder)
-never_fails run start i own (audits.Batch at) o h legal other e = e.ends.1.wrong (batches_are_right run start i own o h legal at)
+never_fails run start i own (audits.Entry at) o h legal other e = none-some at (sym (none_impossible run start i own o h legal) ∙ e.ends.1)
+never_fails run start i own (audits.Batch at) o h legal other e = e.ends.2.wrong (batches_are_right run start i own o h legal at)
 never_fails run start i own audits.Memory o h legal other e = other refl
 
 -- So where some audit of a run does not end well, memory was refused.
@@ -633,6 +664,7 @@ ends_as facts start journal replies h i account slips batches told end result a 
 pub fails_as : (facts : RunFacts) (start : ℕ) (journal : List Entry) (h : History) (i : ℕ) (fault : AuditFault) (end : KitFault) → AuditEnds facts start journal h i (Err fault)
     → end ≡ from_audit fault → FailsAudit facts start journal h i end
 fails_as facts start journal h i (audits.Slips recorder) end ends is = subst (λ (k : KitFault). FailsAudit facts start journal h i k) (sym is) ((λ same. cc), ends)
+fails_as facts start journal h i (audits.Entry at) end ends is = subst (λ (k : KitFault). FailsAudit facts start journal h i k) (sym is) ((λ same. cc), ends)
 fails_as facts start journal h i (audits.Batch at) end ends is = subst (λ (k : KitFault). FailsAudit facts start journal h i k) (sym is) ((λ same. cc), ends)
 fails_as facts start journal h i audits.Memory end ends is = subst (λ (k : KitFault). FailsAudit facts start journal h i k) (sym is) tt
 

@@ -41,6 +41,7 @@ from_setup setups.Memory = Memory
 
 abbrev pub from_audit : AuditFault → KitFault
 from_audit (audits.Slips recorder) = Audit (audits.Slips recorder)
+from_audit (audits.Entry at) = Audit (audits.Entry at)
 from_audit (audits.Batch at) = Audit (audits.Batch at)
 from_audit audits.Memory = Memory
 

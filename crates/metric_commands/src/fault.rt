@@ -154,7 +154,9 @@ impl From<AuditFault> for KitFault {
 
     fn from(fault: AuditFault) -> KitFault {
         match fault {
-            AuditFault::Slips { .. } | AuditFault::Batch { .. } => KitFault::Audit(fault),
+            AuditFault::Slips { .. } | AuditFault::Entry { .. } | AuditFault::Batch { .. } => {
+                KitFault::Audit(fault)
+            }
             AuditFault::Memory => KitFault::Memory,
         }
     }

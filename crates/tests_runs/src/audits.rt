@@ -156,8 +156,16 @@ const CASES: &[Case] = &[
         &[(0, 5), (0, 101)],
         &[5, 101],
         &[FIRST_OF_D, ([1, 0], [1, 2, 10, 30], Some(101))],
-        "2 Batch at 1",
+        "4 Entry at 1",
     ),
+    (&[(0, 5), (0, 101)], &[5, 101], &[], "4 Entry at 1"),
+    (
+        &[(0, -1), (0, 101)],
+        &[-1, 101],
+        &[FIRST_OF_D],
+        "4 Entry at 0",
+    ),
+    (&[(0, 101), (0, 5)], &[5, 101], &[], "1 Slips of recorder 0"),
 ];
 
 fn entries_of<R: Abort>(rt: &R, alloc: Global, told: &[(u32, i64)]) -> Vec<Entry> {

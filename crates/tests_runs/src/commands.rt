@@ -575,6 +575,10 @@ const STOPS: &[(KitFault, &str)] = &[
         "refused: audit 2 Batch at 1, 1",
     ),
     (
+        KitFault::Audit(AuditFault::Entry { at: 1 }),
+        "refused: audit 4 Entry at 1, 1",
+    ),
+    (
         KitFault::Finish(FinishFault::RecorderMissing),
         "refused: finish 1 RecorderMissing, 1",
     ),
