@@ -63,6 +63,19 @@ impl<'a> ClockTicker<'a> {
         }
     }
 
+    /// A ticker that gives a tick every so many milliseconds until its flag is set: no other number of ticks ends it
+    /// than 2^64 - 1 of them.
+    pub fn every(milliseconds: u64, flag: &'a StopFlag) -> Self
+        ensures { result ≡ record {
+          period = milliseconds * 1_000_000;
+          left = 18446744073709551615;
+          last = 0;
+          asked = 0;
+        } }
+    {
+        ClockTicker::new(milliseconds, u64::MAX, flag)
+    }
+
     // Why it stops after a wait, where it does.
     fn stop_cause(&self, is_set: bool, moment: Option<u64>) -> Option<StopCause>
         ensures { result ≡ stop_cause self.now.left is_set moment }

@@ -59,6 +59,17 @@ impl<E: MetricExporter> OpenPeriodic<E> {
         }
     }
 
+    /// A reader that hands on to this exporter, in each run until its ticker stops, or was asked 2^32 - 1 times in that
+    /// run, which with a tick each second takes 136 years.
+    pub fn of(exporter: E) -> OpenPeriodic<E>
+        ensures { result ≡ record {
+          counts = tally exporter 0 0 0 0 0;
+          turns = 4294967295;
+        } }
+    {
+        OpenPeriodic::new(exporter, u32::MAX)
+    }
+
     /// Collects at each tick of each instrument, hands on each batch with points in order, and then flushes the
     /// exporter. An export that fails is not tried again, but by an exporter that keeps its batches.
     ///

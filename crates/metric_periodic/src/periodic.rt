@@ -64,6 +64,14 @@ impl<E: MetricExporter> Periodic<E> {
         Periodic { exporter, turns }
     }
 
+    /// A reader that hands on to this exporter until its ticker stops, or was asked 2^32 - 1 times, which with a tick
+    /// each second takes 136 years.
+    pub fn of(exporter: E) -> Periodic<E>
+        ensures { result ≡ record { exporter = exporter; turns = 4294967295 } }
+    {
+        Periodic::new(exporter, u32::MAX)
+    }
+
     /// Collects at each tick, hands on each batch in order, and then flushes the exporter, so that one which holds
     /// batches back can tell where a collection ends. Where a collection is refused, what was collected before is
     /// handed on. An export that fails is not tried again. Contracts see that each turn makes one collection, at
