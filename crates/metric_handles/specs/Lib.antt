@@ -12,3 +12,4 @@ pub mod TimeUnits
 pub mod Timers
 pub mod Works
 pub mod Jobs
+pub mod Asking

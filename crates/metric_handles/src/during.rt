@@ -129,8 +129,9 @@ fn declared_for(facts: &Facts, recorder: u32) -> u64
     budgets.get(recorder as usize).copied().unwrap_or(0)
 }
 
+/// How many recordings on the instrument of a number a recorder was told of.
 #[tactic(auto, using(crate::proofs::WayLaws::told_some, crate::proofs::WayLaws::told_none))]
-fn told_count(recorder: &Recorder, number: u32) -> u64
+pub(crate) fn told_count(recorder: &Recorder, number: u32) -> u64
     ensures { result ≡ (told_at recorder.now number).count }
 {
     match recorder.accepted(number) {

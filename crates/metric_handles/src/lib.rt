@@ -8,6 +8,7 @@
 //! instrument a name is of, `specs/Calls.antt` what a call does, `specs/KeysGiven.antt` what the law says.
 #![tactic(auto)]
 
+mod asking;
 mod at;
 mod bound;
 mod bound_list;
@@ -27,10 +28,12 @@ mod replaced;
 mod rooms;
 mod seat;
 mod seats;
+mod spares;
 mod time_unit;
 mod timed;
 mod timer;
 
+pub use asking::Asking;
 pub use at::{AnySeat, At};
 pub use bound::{Bound, BoundCounter, BoundGauge, BoundHistogram, BoundUpDownCounter};
 pub use bound_list::{BoundList, ListFault};

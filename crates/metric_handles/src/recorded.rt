@@ -1,6 +1,7 @@
 //! Seats whose recorder is known.
 ghost use Rattle.std.specs.Prelude.{◌≡◌};
 
+use crate::asking::Asking;
 use crate::counted::Counted;
 use crate::seat::Seat;
 use metric_provider::Recorder;
@@ -19,6 +20,12 @@ impl Recorded for Recorder {
 }
 
 impl<S: Recorded> Recorded for Counted<S> {
+    fn recorder(&self) -> &Recorder {
+        self.seat().recorder()
+    }
+}
+
+impl<S: Recorded> Recorded for Asking<S> {
     fn recorder(&self) -> &Recorder {
         self.seat().recorder()
     }
