@@ -18,7 +18,8 @@
 //!    counts its refusals, and handles take it as they take a recorder's (a [`Seat`]); `known_or` and `clamped` of a
 //!    handle put a declared value in the place of one that is not, counted by a [`Replaced`]. `seat.at(&rt, &provider)`
 //!    of [`AnySeat`] is an [`At`], a seat with what it records on: its `add` and `record` name the rest alone, and
-//!    `during` counts work as under way until it ends, however it does, where the seat is [`Recorded`].
+//!    `during` counts work as under way until it ends, however it does, where the seat is [`Recorded`]. An [`Asking`] seat
+//!    asks for some of a spare before its budget ends, and tells by `wants_next_run` when nothing is left.
 //! 4. **Bound attributes.** `Handle::bind` looks attributes up once; the [`Bound`] that it gives records without a
 //!    look-up, and a [`BoundList`] hands on many under one lock. Below both are set keys: `Recorder::admits` gives the
 //!    [`SetKey`] of attributes, `Recorder::record_set` records by it, and `Recorder::record_sets` a list of
@@ -82,7 +83,8 @@
 //!     keeps each recording, 32 bytes in the list of its instrument and 24 in the seat of its recorder, so it takes
 //!     memory as long as a run lasts, and some time more for each of them. Its totals have the journal of each
 //!     instrument, its recordings as [`Entry`], and the [`Slip`]s of each recorder; [`audit`] tells whether these and
-//!     the batches agree, or an [`AuditFault`].
+//!     the batches agree, or an [`AuditFault`]. [`open_audited`] opens an [`AuditedProvider`], and [`audit_run`] audits
+//!     a run of it as a whole, up to an [`Extent`], or tells a [`RunAuditFault`].
 //! 11. **Devices.** A [`Sink`] takes bytes, a [`Source`] gives them: [`StdSink`] and [`StdSource`] are those of std,
 //!     [`CutSink`] and [`CutSource`] are of memory, and a [`KeepingExporter`] keeps its batches, in which [`value_of`]
 //!     finds a point, for tests. [`read_all`] and [`write_all`] move a whole text.
@@ -96,6 +98,7 @@ mod opening;
 mod provider;
 mod rolled;
 mod rolling;
+mod run_audit;
 mod runs;
 mod service_fault;
 mod tables;
@@ -122,6 +125,8 @@ pub use metric_advice::locate_in_config;
 pub use metric_aggregate::PointValue;
 pub use metric_audit::AuditFault;
 pub use metric_audit::Audited;
+pub use metric_audit::Extent;
+pub use metric_audit::RunAuditFault;
 pub use metric_audit::audit;
 pub use metric_base::Boundaries;
 pub use metric_base::Few;
@@ -190,6 +195,7 @@ pub use metric_exposure::expose;
 pub use metric_exposure::expose_to_otlp;
 pub use metric_handles::Adds;
 pub use metric_handles::AnySeat;
+pub use metric_handles::Asking;
 pub use metric_handles::At;
 pub use metric_handles::Bound;
 pub use metric_handles::BoundCounter;
@@ -297,12 +303,15 @@ pub use metric_views::Temporality;
 pub use metric_views::ViewDefect;
 pub use metric_views::ViewFault;
 pub use opening::open;
+pub use opening::open_audited;
 pub use opening::open_certified;
+pub use provider::AuditedProvider;
 pub use provider::MeterProvider;
 pub use rolled::RollLeft;
 pub use rolled::Unrollable;
 pub use rolled::Unrolled;
 pub use rolling::roll_over_all;
+pub use run_audit::audit_run;
 pub use runs::Runs;
 pub use runs::now;
 pub use service_fault::ServiceFault;

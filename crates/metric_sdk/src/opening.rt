@@ -1,15 +1,16 @@
 //! A service from its texts to its seats.
-ghost use Rattle.std.specs.Prelude.{◌≡◌, IfErr, IfOk, IsTrue, OnErr, OnOk, false};
+ghost use Rattle.std.specs.Prelude.{◌≡◌, IfErr, IfOk, IsTrue, OnErr, OnOk, false, true};
 ghost use Rattle.metric_io.specs.Counts.{next_count};
 ghost use Rattle.metric_provider.specs.Rolling.{new_collectors, new_recorders};
 ghost use Rattle.metric_seat.specs.Seats.{provider_of};
 ghost use Rattle.metric_setup.specs.Setups.{IsCertifiedPlan, IsFirstClaimFault, IsFirstFault, IsVouchedPlan};
 
-use crate::provider::MeterProvider;
+use crate::provider::{AuditedProvider, MeterProvider};
 use crate::runs::Runs;
-use metric_marked::Marked;
+use metric_audit::Audited;
+use metric_book::Book;
 use metric_plan::Plan;
-use metric_provider::{Collector, NoGate, Recorder, start};
+use metric_provider::{Collector, NoGate, Provider, Recorder, start};
 use metric_setup::{SetupFault, certified_plan, vouched_plan};
 use std::alloc::Global;
 use std::sync::Wait;
@@ -77,26 +78,56 @@ pub fn open_certified<R: Wait>(
     started(rt, alloc, plan, now, runs)
 }
 
+/// [`open`] over books that keep each recording beside their running tables, so that the run can be audited
+/// ([`audit_run`](crate::audit_run)): what that costs stands at [`Audited`].
+///
+/// # Errors
+///
+/// Those of [`open`].
+pub fn open_audited<R: Wait>(
+    rt: &R,
+    alloc: Global,
+    catalogue_text: &str,
+    config_text: &str,
+    now: u64,
+    runs: &mut Runs,
+) -> Result<(AuditedProvider, Vec<Recorder>, Vec<Collector>), SetupFault>
+    ensures plan { IfOk result (λ opened.
+        IsCertifiedPlan catalogue_text.now config_text.now opened.0.plan) }
+    ensures run { IfOk result (λ opened. opened.0.run ≡ next_count runs.old) }
+    ensures given { OnOk result (runs.new ≡ next_count runs.old) }
+    ensures not_given { OnErr result (runs.new ≡ runs.old) }
+    ensures recorders { IfOk result (λ opened.
+        opened.1.items ≡ new_recorders true opened.0.run opened.0.plan) }
+    ensures collectors { IfOk result (λ opened.
+        opened.2.items ≡ new_collectors opened.0.run now opened.0.plan) }
+    ensures first { IfErr result (λ fault.
+        IsFirstFault fault catalogue_text.now config_text.now) }
+{
+    let plan = certified_plan(alloc, catalogue_text, config_text)?;
+    started::<R, Audited>(rt, alloc, plan, now, runs)
+}
+
 // The provider of a certified plan with its seats. Only want of memory refuses it.
-fn started<R: Wait>(
+fn started<R: Wait, B: Book>(
     rt: &R,
     alloc: Global,
     plan: Plan,
     now: u64,
     runs: &mut Runs,
-) -> Result<(MeterProvider, Vec<Recorder>, Vec<Collector>), SetupFault>
+) -> Result<(Provider<B, NoGate>, Vec<Recorder>, Vec<Collector>), SetupFault>
     requires { IsTrue plan.is_certified }
     ensures provider { let run = next_count runs.old in
         IfOk result (λ opened. opened.0 ≡ provider_of plan run) }
     ensures recorders { let run = next_count runs.old in
-        IfOk result (λ opened. opened.1.items ≡ new_recorders false run plan) }
+        IfOk result (λ opened. opened.1.items ≡ new_recorders B.KEEPS_ENTRIES run plan) }
     ensures collectors { let run = next_count runs.old in
         IfOk result (λ opened. opened.2.items ≡ new_collectors run now plan) }
     ensures given { OnOk result (runs.new ≡ next_count runs.old) }
     ensures not_given { OnErr result (runs.new ≡ runs.old) }
     ensures memory { IfErr result (λ fault. fault ≡ SetupFault.Memory) }
 {
-    match start::<R, Marked, NoGate>(rt, alloc, plan, now, runs.coming(), NoGate) {
+    match start::<R, B, NoGate>(rt, alloc, plan, now, runs.coming(), NoGate) {
         Ok(opened) => {
             let _ = runs.next();
             Ok(opened)
