@@ -1,4 +1,4 @@
-//! A service that lives long, to copy from: budgets with a spare that workers ask for, runs that roll over, and a queue
+//! A service that lives long, to copy from: budgets with a spare that seats ask for, runs that roll over, and a queue
 //! that outlives them over an exporter whose device is out for a while. What was exported adds up to what was recorded:
 //! no window is lost, and none is exported twice.
 #![tactic(auto)]
@@ -8,10 +8,11 @@ mod ledger;
 use anyhow::{Context, Result, bail, ensure};
 use ledger::{Device, Ledger};
 use metric_sdk::{
-    Attr, ClockTicker, Collector, Counter, MeterProvider, OpenPeriodic, Queued, Recorder, Refusal,
-    RunningCounts, Runs, StopFlag, Totals, ValueRef, counter, now, open, roll_over_all,
+    Asking, Attr, ClockTicker, Collector, Counter, MeterProvider, OpenPeriodic, Plan, Queued,
+    Recorder, RunningCounts, Runs, StopFlag, Totals, counter, now, open, roll_over_all,
     shutdown_all,
 };
+use std::alloc::Global;
 use std::sync::Wait;
 use std::thread::{Threads, for_each_mut, join};
 use std::time::Clock;
@@ -159,25 +160,26 @@ fn live<R: Threads + Wait + Clock + Sync + AllocGlobal>(
 ) -> Result<Service> {
     let Service {
         provider,
-        mut recorders,
+        recorders,
         mut readers,
     } = service;
+    let mut workers = asking(rt.alloc(), provider.plan(), recorders)?;
     let pages = counter(provider.plan(), "office", "pages", &["kind"])?;
     let seat = readers.pop().context("no reader")?;
     let (stop, counts, lent) = (StopFlag::new(), RunningCounts::new(), &provider);
-    let work = |_, recorder: &mut Recorder| do_jobs(rt, lent, &pages, recorder);
-    let (kept, recorders) = join(
+    let work = |_, worker: &mut Asking| do_jobs(rt, lent, &pages, worker);
+    let (kept, workers) = join(
         rt,
         || {
-            let mut ticker = ClockTicker::new(1, u64::MAX, &stop);
-            let reader = OpenPeriodic::new(queue, u32::MAX);
+            let mut ticker = ClockTicker::every(1, &stop);
+            let reader = OpenPeriodic::of(queue);
             let end = reader.run(rt, rt.alloc(), lent, seat, &mut ticker, &counts);
             end.kept
         },
         || {
-            for_each_mut(rt, recorders.as_mut_slice(), 64, &work);
+            for_each_mut(rt, workers.as_mut_slice(), 64, &work);
             stop.set(rt);
-            recorders
+            workers
         },
     );
     if let Some(seat) = kept {
@@ -185,36 +187,33 @@ fn live<R: Threads + Wait + Clock + Sync + AllocGlobal>(
     }
     Ok(Service {
         provider,
-        recorders,
+        recorders: seats_of(rt.alloc(), workers)?,
         readers,
     })
 }
 
-// Does all jobs. Metrics stop no work: what is refused is missing in the totals.
-fn do_jobs<R: Wait>(rt: &R, provider: &MeterProvider, pages: &Counter, recorder: &mut Recorder) {
-    for (kind, count) in JOBS {
-        let _ = record(rt, provider, pages, recorder, *kind, *count);
+// Seats that ask for three recordings where their budget ends.
+fn asking(alloc: Global, plan: &Plan, recorders: Vec<Recorder>) -> Result<Vec<Asking>> {
+    let mut workers = Vec::with_capacity(alloc, recorders.len())?;
+    for seat in recorders {
+        let seat = Asking::new(alloc, plan, seat, 3);
+        workers.push(seat.map_err(|(_, refused)| refused)?)?;
     }
+    Ok(workers)
 }
 
-// Records a job. Where the budget is spent, asks for some of the spare, and records again.
-fn record<R: Wait>(
-    rt: &R,
-    provider: &MeterProvider,
-    pages: &Counter,
-    recorder: &mut Recorder,
-    kind: &str,
-    count: i64,
-) -> Result<(), Refusal> {
-    let kind = Attr {
-        key: "kind",
-        value: ValueRef::Text(kind),
-    };
-    match pages.add(rt, provider, recorder, &[kind], count) {
-        Err(Refusal::Budget) => {
-            recorder.ask(rt, provider, pages.number(), 3)?;
-            pages.add(rt, provider, recorder, &[kind], count)
-        }
-        answer => answer,
+// The seats of the recorders.
+fn seats_of(alloc: Global, workers: Vec<Asking>) -> Result<Vec<Recorder>> {
+    let mut recorders = Vec::with_capacity(alloc, workers.len())?;
+    for worker in workers {
+        recorders.push(worker.into_seat())?;
+    }
+    Ok(recorders)
+}
+
+// Does all jobs. Metrics stop no work: what is refused is missing in the totals.
+fn do_jobs<R: Wait>(rt: &R, provider: &MeterProvider, pages: &Counter, worker: &mut Asking) {
+    for (kind, count) in JOBS {
+        let _ = pages.add(rt, provider, worker, &[Attr::text("kind", kind)], *count);
     }
 }

@@ -179,8 +179,7 @@ fn serve<R: Threads + Wait + Clock + Sync + AllocGlobal>(
     Ok((workers, failed))
 }
 
-// Exports every so many milliseconds, for 136 years or more, and a last time when the workers have ended. Tells what
-// failed.
+// Exports every so many milliseconds, and a last time when the workers have ended. Tells what failed.
 fn export_by<R: Wait + Clock + AllocGlobal, E: MetricExporter + Drop>(
     rt: &R,
     exporter: E,
@@ -189,8 +188,7 @@ fn export_by<R: Wait + Clock + AllocGlobal, E: MetricExporter + Drop>(
     milliseconds: u64,
     stop: &StopFlag,
 ) -> u64 {
-    let mut ticker = ClockTicker::new(milliseconds, u64::MAX, stop);
-    let periodic = Periodic::new(exporter, u32::MAX);
-    let end = periodic.run(rt, rt.alloc(), provider, reader, &mut ticker);
+    let mut ticker = ClockTicker::every(milliseconds, stop);
+    let end = Periodic::of(exporter).run(rt, rt.alloc(), provider, reader, &mut ticker);
     end.failed.saturating_add(end.refused)
 }
