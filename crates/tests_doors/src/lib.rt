@@ -5,7 +5,11 @@
 #![tactic(auto)]
 
 #[cfg(test)]
+mod asks;
+#[cfg(test)]
 mod asserted;
+#[cfg(test)]
+mod audits;
 #[cfg(test)]
 mod counts;
 #[cfg(test)]
