@@ -42,7 +42,8 @@ pub record GoTogether (own : Facts) (a b : Gathered) : Type 0 where
   pub time : a.last.time ≡ b.last.time
   pub budgeted : a.batch.mark + b.batch.mark ≤ total own
 
--- What both report, where these are their streams' points: marks are added, all else is the first's.
+-- What both report, where these are their streams' points: marks are added, all else is that of the
+-- first.
 abbrev pub of_both : Gathered → Gathered → List StreamPoints → Gathered
 of_both a b streams = record {
   asked = a.asked;

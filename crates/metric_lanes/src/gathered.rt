@@ -59,9 +59,10 @@ impl Gathered {
         Gathered { asked, last, batch }
     }
 
-    /// Puts one more lane of the instrument to these (Metrics SDK, collect). `Stranger` comes exactly where the reader's
-    /// last batch of that lane is of another time, both have more recordings than the budgets and the spare allow, or
-    /// a stream reports last values, of which none says which is the later one. The only other refusal is `Memory`.
+    /// Puts one more lane of the instrument to these (Metrics SDK, collect). `Stranger` comes exactly where the
+    /// reader's last batch of that lane is of another time, both have more recordings than the budgets and the spare
+    /// allow, or a stream reports last values, of which none says which is the later one. The only other refusal is
+    /// `Memory`.
     pub fn with(&self, alloc: Global, facts: &Facts, lane: &Gathered) -> Result<Gathered, Refusal>
         requires safe { IsSafeFacts facts.now }
         requires gathers { Gathers facts.now self.now }

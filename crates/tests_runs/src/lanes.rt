@@ -175,11 +175,12 @@ fn push_batches<R: Abort>(
     alloc: Global,
     plan: &Plan,
     of: &[u8; 3],
-    (instrument, reader): (u32, u32),
+    series: (u32, u32),
 )
     requires certified { IsTrue plan.now.is_certified }
-    requires known { instrument < length plan.now.facts.instruments }
+    requires known { series.0 < length plan.now.facts.instruments }
 {
+    let (instrument, reader) = series;
     certified_facts_are_safe(plan);
     let facts = plan.facts(instrument);
     if reader as usize >= facts.delta.len() {
