@@ -3,4 +3,3 @@ pub mod ReplayLaws
 pub mod BatchLaws
 pub mod PlanLaws
 pub mod SortedLaws
-pub mod RunLaws
