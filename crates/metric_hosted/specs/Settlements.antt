@@ -7,7 +7,8 @@ use Rattle.metric_marked.specs.Marks.{MarkedValue}
 use Rattle.metric_plan.specs.Plans.{PlanValue}
 use Rattle.metric_seat.specs.Recordings.{told_at}
 use Rattle.metric_seat.specs.Seats.{RecorderValue, is_recorder_of}
-use Rattle.metric_seat.specs.Settlements.{IsAsTold, are_distinct, has_each, told_total}
+use Rattle.metric_seat.specs.Settlements.{IsAsTold, are_distinct, has_each, numbers_of}
+use Rattle.metric_seat.specs.Settlements.{told_total}
 use Rattle.metric_seat.specs.declared.fault.FinishFault.{FinishFault}
 use Rattle.metric_seat.specs.declared.fault.FinishFault.TheVariants.{RecorderMissing, Stranger}
 use Rattle.metric_seat.specs.declared.fault.FinishFault.TheVariants.{AuditMismatch}
@@ -56,6 +57,6 @@ abbrev pub Settles : CellValue MarkedValue → List SeatTold → Result (Unit {0
 Settles c seats (Err first) (Ok total) = ⊥
 Settles c seats (Err first) (Err fault) = fault ≡ first
 Settles c seats (Ok done) (Ok total) =
-    IsAsTold recorder_of told_of c seats × (total ≡ told_total told_of c.facts.lo seats)
+    IsAsTold recorder_of told_of (numbers_of c) seats × (total ≡ told_total told_of c.facts.lo seats)
 Settles c seats (Ok done) (Err fault) =
-    (fault ≡ AuditMismatch) × (IsAsTold recorder_of told_of c seats → ⊥)
+    (fault ≡ AuditMismatch) × (IsAsTold recorder_of told_of (numbers_of c) seats → ⊥)

@@ -7,18 +7,16 @@ use Rattle.std.proofs.lemmas.List.FromFn.{get_or-range_with_len, length-range_wi
 use Rattle.std.proofs.lemmas.Bool.{eqb-true}
 use Rattle.std.proofs.lemmas.List.{length-map}
 use Rattle.std.proofs.lemmas.Option.{same_Some, slice_get_within}
-use Rattle.metric_book.specs.Journals.{Standing, kept_of}
 use Rattle.metric_book.specs.Slips.{slips_of}
 use Rattle.metric_book.specs.declared.slip.Slip.{Slip}
-use Rattle.metric_core.specs.Cells.{CellKept, CellValue}
-use Rattle.metric_facts.specs.declared.facts.Facts.{Facts}
+use Rattle.metric_core.specs.Cells.{CellValue}
 use Rattle.metric_history.specs.declared.entry.Entry.{Entry}
 use Rattle.metric_plan.specs.Plans.{PlanValue}
-use Rattle.metric_safety.specs.SafeFacts.{are_admitted}
 use Rattle.metric_seat.specs.declared.total.Total.{Total}
 use Rattle.metric_seat.specs.Seats.{RecorderValue, slips_at}
-use Rattle.metric_seat.specs.Settlements.{IsToldBy, has_each, has_seat, told_sum}
-use Rattle.metric_provider.specs.Totals.{AreNoted, AreSettled, Finishes, IsToldJournal, KeepToldJournals, entries_by, number_of, slips_by, slips_of_seats, slips_on, told_on, told_totals}
+use Rattle.metric_seat.specs.Settlements.{has_each, has_seat}
+use Rattle.metric_provider.specs.Lanes.{kept_by}
+use Rattle.metric_provider.specs.Totals.{AreNoted, AreSettled, Finishes, IsToldJournal, KeepToldJournals, entries_by, number_of, slips_by, slips_of_seats, slips_on, told_totals}
 
 -- ---- the slips of each recorder are its entries
 
@@ -83,43 +81,30 @@ get_some (x ∷ xs) zero below = (x, refl)
 get_some (x ∷ xs) (suc i) below = get_some xs i (omega (arith, below))
 
 -- what the parts of the end are told makes the end
-pub finishes : {B : Type 0} (kept : B → List Entry) (keeps : Bool) (plan : PlanValue) (cells : List (CellValue B)) (seats : List RecorderValue)
+pub finishes : {B : Type 0} (kept : B → List Entry) (keeps : Bool) (plan : PlanValue) (lanes : List (List (CellValue B))) (seats : List RecorderValue)
     (totals : List Total) (journals : List (List Entry)) (slips : List (List (List Slip))) (recorders instruments : ℕ)
-    → length cells ≡ length plan.facts.instruments → has_each number_of seats (length plan.facts.contents.recorders) ≡ true → recorders ≡ length plan.facts.contents.recorders → instruments ≡ length plan.facts.instruments
-    → totals ≡ told_totals seats 0 plan.facts.instruments → AreSettled true kept plan.facts.instruments cells seats → KeepToldJournals kept keeps plan.facts.instruments cells seats
-    → journals ≡ map (λ (c : CellValue B). kept c.book) cells → slips ≡ slips_of_seats seats recorders instruments
+    → length lanes ≡ length plan.facts.instruments → has_each number_of seats (length plan.facts.contents.recorders) ≡ true → recorders ≡ length plan.facts.contents.recorders → instruments ≡ length plan.facts.instruments
+    → totals ≡ told_totals seats 0 plan.facts.instruments → AreSettled true kept plan.facts.instruments lanes seats → KeepToldJournals kept keeps plan.facts.instruments lanes seats
+    → journals ≡ map (kept_by kept) lanes → slips ≡ slips_of_seats seats recorders instruments
     → Finishes keeps plan seats totals journals slips
-finishes {B} kept keeps plan cells seats totals journals slips recorders instruments long all counted numbered told as_told kept_told are noted =
+finishes {B} kept keeps plan lanes seats totals journals slips recorders instruments long all counted numbered told as_told kept_told are noted =
     let count : ℕ = length plan.facts.contents.recorders in
-    let of : CellValue B → List Entry = λ c. kept c.book in
+    let of : List (CellValue B) → List Entry = kept_by kept in
     let own : slips ≡ slips_of_seats seats count (length plan.facts.instruments) =
     noted ∙ ap (λ (n : ℕ). slips_of_seats seats n instruments) counted ∙ ap (λ (n : ℕ). slips_of_seats seats count n) numbered in
     record {
       told = told;
       accepted = record {
-        one_each = ap (λ (js : List (List Entry)). length js) are ∙ length-map cells of ∙ long;
+        one_each = ap (λ (js : List (List Entry)). length js) are ∙ length-map lanes of ∙ long;
         told = λ i facts journal at found.
-            let from = get_map of cells i journal (ap (λ (js : List (List Entry)). slice_get js i) (sym are) ∙ found) in
+            let from = get_map of lanes i journal (ap (λ (js : List (List Entry)). slice_get js i) (sym are) ∙ found) in
             subst (λ (j : List Entry). IsToldJournal keeps facts seats i j) from.2 (kept_told i facts from.0 at from.1);
       };
       noted = own;
       entries = own ∙ ap (λ (n : ℕ). map (slips_on seats count) (range_with_len 0 n)) (sym long)
-          ∙ all_noted of cells seats count 0 (λ k below. seat_of seats count k all below)
-          (λ i c found. let at = get_some plan.facts.instruments i (omega (arith, long, slice_get_within cells i c found)) in
+          ∙ all_noted of lanes seats count 0 (λ k below. seat_of seats count k all below)
+          (λ i c found. let at = get_some plan.facts.instruments i (omega (arith, long, slice_get_within lanes i c found)) in
           let here : i ≡ 0 + i = omega arith in
-          subst (λ (n : ℕ). AreNoted seats n (kept c.book)) here (as_told i at.0 c at.1 found).noted)
+          subst (λ (n : ℕ). AreNoted seats n (kept_by kept c)) here (as_told i at.0 c at.1 found).noted)
           ∙ ap (λ (js : List (List Entry)). map (entries_by count) js) (sym are);
     }
-
--- the entries that a book keeps of a cell whose recorders all have seats are a journal as told
-pub told_journal : {B : Type 0} (stands : B → Standing) (keeps whole : Bool) (own : Facts) (c : CellValue B) (seats : List RecorderValue) (i : ℕ) (entries : List Entry)
-    → CellKept stands c → ((facts : Facts) (journal : List Entry) (marks : List ℕ) → stands c.book facts journal marks → entries ≡ kept_of keeps journal)
-    → c.facts ≡ own → IsToldBy whole number_of (told_on i) c seats → whole ≡ true → IsToldJournal keeps own seats i entries
-told_journal stands keeps true own c seats i entries cell all same told is = record {
-  accepted = cell.journal;
-  kept = all c.facts cell.journal c.marks cell.known.book;
-  counted = sym cell.known.counted ∙ told.count;
-  summed = sym cell.known.summed ∙ told.sum ∙ ap (λ (f : Facts). told_sum (told_on i) f.lo seats) same;
-  admitted = subst (λ (f : Facts). are_admitted f cell.journal ≡ true) same cell.admitted;
-}
-told_journal stands keeps false own c seats i entries cell all same told is = absurd cc

@@ -1,6 +1,7 @@
 pub mod CollectLaws
 pub mod SettleLaws
 pub mod EntryLaws
+pub mod LaneLaws
 pub mod JournalLaws
 pub mod GainLaws
 pub mod RollLaws

@@ -1,6 +1,6 @@
 -- The greatest time of instruments that are looked at one after the other.
 use Rattle.std.proofs.Common.{◌≡◌, ◌<◌, ℕ, ◌+◌, Bool, true, false, List, Result, [], ◌∷◌, ◌++◌, get_or, length, map, take, refl, sym, ap, subst, ◌∙◌, arith}
-use Rattle.std.specs.Prelude.{fold, max}
+use Rattle.std.specs.Prelude.{All, fold, max}
 use Rattle.std.specs.List.{AllZip}
 use Rattle.std.proofs.lemmas.List.{take_more}
 use Rattle.std.proofs.lemmas.List.Elements.{All-cons, All-nil}
@@ -8,8 +8,8 @@ use Rattle.std.proofs.lemmas.List.Sums.{fold-append}
 use Rattle.std.proofs.lemmas.Slice.Zip.{all_zipped_more}
 use Rattle.metric_book.specs.Journals.{Standing}
 use Rattle.metric_core.specs.Cells.{CellKept, CellValue, latest}
-use Rattle.metric_provider.specs.Locked.{AreLocked}
-use Rattle.metric_provider.specs.Rolling.{IsLatest, IsTimeBehind, RefusesNext, RefusesRoll, TellsLatest}
+use Rattle.metric_provider.specs.Locked.{AreLanes, AreLocked}
+use Rattle.metric_provider.specs.Rolling.{IsLatest, IsTimeBehind, IsTimeOfLane, RefusesNext, RefusesRoll, TellsLatest, latest_of}
 use Rattle.metric_seat.specs.declared.fault.FinishFault.{FinishFault}
 use Rattle.metric_provider.specs.declared.fault.RollFault.{RollFault}
 use Rattle.metric_provider.specs.declared.fault.RollFault.TheVariants.{SameRun, Early, Finish}
@@ -28,27 +28,60 @@ one_more {T} tells all at x below here before time told one =
       is = ap (λ (n : ℕ). max n time) told.is ∙ sym (fold-append max 0 told.times (time ∷ []));
     }
 
+-- lanes behind locks with these times
+record AreLanesTimed {B : Type 0} (standing : B → Standing) (count : ℕ) (times : List ℕ) : Type 0 where
+  pub cells : List (CellValue B)
+  pub long : length cells ≡ count
+  pub kept : All (CellKept standing) cells
+  pub same : map latest cells ≡ times
+
+lanes_timed : {B T : Type 0} (standing : B → Standing) (all : List T) (times : List ℕ) → AllZip (λ (x : T) (time : ℕ). IsTimeOfLane standing time) all times
+    → AreLanesTimed standing (length all) times
+lanes_timed standing [] [] each = record { cells = []; long = refl; kept = All-nil (CellKept standing); same = refl }
+lanes_timed standing [] (time ∷ times) each = absurd each
+lanes_timed standing (x ∷ all) [] each = absurd each
+lanes_timed standing (x ∷ all) (time ∷ times) each =
+    let one = each.0 in
+    let rest = lanes_timed standing all times each.1 in
+    record {
+      cells = one.cell ∷ rest.cells;
+      long = omega (arith, rest.long);
+      kept = All-cons (CellKept standing) one.cell rest.cells one.kept rest.kept;
+      same = ap (λ (n : ℕ). n ∷ map latest rest.cells) (sym one.is) ∙ ap (λ (ns : List ℕ). time ∷ ns) rest.same;
+    }
+
+-- what the locks told is of the lanes behind them
+pub is_behind : {B T : Type 0} (standing : B → Standing) (all : List T) (time : ℕ) → 0 < length all
+    → TellsLatest (λ (x : T) (t : ℕ). IsTimeOfLane standing t) all time → IsTimeBehind standing time
+is_behind {B} standing all time some told =
+    let found = lanes_timed standing all told.times told.each in
+    record {
+      cells = found.cells;
+      kept = record { some = omega (arith, some, found.long); kept = found.kept };
+      is = told.is ∙ ap (λ (ns : List ℕ). fold max 0 ns) (sym found.same);
+    }
+
 -- instruments behind locks with these times
 record AreTimed {B : Type 0} (standing : B → Standing) (locks : ℕ) (times : List ℕ) : Type 0 where
-  pub cells : List (CellValue B)
-  pub locked : AreLocked standing locks cells
-  pub same : map latest cells ≡ times
+  pub lanes : List (List (CellValue B))
+  pub locked : AreLocked standing locks lanes
+  pub same : map latest_of lanes ≡ times
 
 timed : {B T : Type 0} (standing : B → Standing) (all : List T) (times : List ℕ) → AllZip (λ (x : T) (time : ℕ). IsTimeBehind standing time) all times
     → AreTimed standing (length all) times
-timed standing [] [] each = record { cells = []; locked = record { one_each = refl; kept = All-nil (CellKept standing) }; same = refl }
+timed standing [] [] each = record { lanes = []; locked = record { one_each = refl; kept = All-nil (AreLanes standing) }; same = refl }
 timed standing [] (time ∷ times) each = absurd each
 timed standing (x ∷ all) [] each = absurd each
 timed standing (x ∷ all) (time ∷ times) each =
     let one = each.0 in
     let rest = timed standing all times each.1 in
     record {
-      cells = one.cell ∷ rest.cells;
+      lanes = one.cells ∷ rest.lanes;
       locked = record {
         one_each = omega (arith, rest.locked.one_each);
-        kept = All-cons (CellKept standing) one.cell rest.cells one.kept rest.locked.kept;
+        kept = All-cons (AreLanes standing) one.cells rest.lanes one.kept rest.locked.kept;
       };
-      same = ap (λ (n : ℕ). n ∷ map latest rest.cells) (sym one.is) ∙ ap (λ (ns : List ℕ). time ∷ ns) rest.same;
+      same = ap (λ (n : ℕ). n ∷ map latest_of rest.lanes) (sym one.is) ∙ ap (λ (ns : List ℕ). time ∷ ns) rest.same;
     }
 
 -- what the locks told is of the instruments behind them
@@ -57,7 +90,7 @@ pub is_latest : {B T : Type 0} (standing : B → Standing) (all : List T) (locks
 is_latest {B} standing all locks time long told =
     let found = timed standing all told.times told.each in
     record {
-      cells = found.cells;
+      lanes = found.lanes;
       locked = record { one_each = found.locked.one_each ∙ long; kept = found.locked.kept };
       is = told.is ∙ ap (λ (ns : List ℕ). fold max 0 ns) (sym found.same);
     }

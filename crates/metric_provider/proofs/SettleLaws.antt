@@ -48,19 +48,19 @@ totals_more seats number instruments done new all own total found is pushed befo
     ∙ ap (λ (rest : List Facts). done ++ told_totals seats number rest) (sym (drop_at instruments number own found))
     ∙ before
 
--- what holds of the cell of each instrument, and of one instrument more
-pub told_more_cells : {B : Type 0} (P : Facts → CellValue B → ℕ → Type 0) (instruments : List Facts) (cells : List (CellValue B)) (number : ℕ) (own : Facts) (c : CellValue B)
+-- what holds of the lanes of each instrument, and of one instrument more
+pub told_more_cells : {X : Type 0} (P : Facts → X → ℕ → Type 0) (instruments : List Facts) (cells : List X) (number : ℕ) (own : Facts) (c : X)
     → slice_get instruments number ≡ Some own → slice_get cells number ≡ Some c → P own c number
-    → ((i : ℕ) (f : Facts) (d : CellValue B) → i < number → slice_get instruments i ≡ Some f → slice_get cells i ≡ Some d → P f d i)
-    → (i : ℕ) (f : Facts) (d : CellValue B) → i < number + 1 → slice_get instruments i ≡ Some f → slice_get cells i ≡ Some d → P f d i
-told_more_cells {B} P instruments cells number own c found there told before i f d below at_i in_i = at (i == number) refl
+    → ((i : ℕ) (f : Facts) (d : X) → i < number → slice_get instruments i ≡ Some f → slice_get cells i ≡ Some d → P f d i)
+    → (i : ℕ) (f : Facts) (d : X) → i < number + 1 → slice_get instruments i ≡ Some f → slice_get cells i ≡ Some d → P f d i
+told_more_cells {X} P instruments cells number own c found there told before i f d below at_i in_i = at (i == number) refl
   where
     at : (b : Bool) → (i == number) ≡ b → P f d i
     at true e =
         let same : number ≡ i = grind (arith, nat_tests) in
         let facts : own ≡ f = same_Some own f (sym found ∙ ap (λ (n : ℕ). slice_get instruments n) same ∙ at_i) in
         let cell : c ≡ d = same_Some c d (sym there ∙ ap (λ (n : ℕ). slice_get cells n) same ∙ in_i) in
-        subst (λ (x : CellValue B). P f x i) cell (subst (λ (x : Facts). P x c i) facts (subst (λ (n : ℕ). P own c n) same told))
+        subst (λ (x : X). P f x i) cell (subst (λ (x : Facts). P x c i) facts (subst (λ (n : ℕ). P own c n) same told))
     at false e =
         let earlier : i < number = grind (arith, nat_tests) in
         before i f d earlier at_i in_i
@@ -74,7 +74,7 @@ totals_end seats number all totals whole past so_far =
 -- ---- refusals
 
 -- what refuses the totals refuses to finish
-pub finish_refused : {B : Type 0} (whole : Bool) (kept : B → List Entry) (instruments : List Facts) (cells : List (CellValue B)) (seats : List RecorderValue) (fault : FinishFault)
+pub finish_refused : {B : Type 0} (whole : Bool) (kept : B → List Entry) (instruments : List Facts) (cells : List (List (CellValue B))) (seats : List RecorderValue) (fault : FinishFault)
     → RefusesTotals whole kept instruments cells seats fault → RefusesFinish (Ok tt) fault
 finish_refused whole kept instruments cells seats AuditMismatch why = tt
 finish_refused whole kept instruments cells seats Memory why = tt

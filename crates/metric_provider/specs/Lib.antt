@@ -1,4 +1,5 @@
 pub mod Providers
+pub mod Lanes
 pub mod NewSlots
 pub mod Gains
 pub mod Closing

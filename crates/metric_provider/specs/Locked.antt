@@ -1,5 +1,5 @@
 -- What stands behind the locks of a provider.
-use Rattle.std.specs.Prelude.{◌≡◌, ℕ, Bool, true, All, List, length, map}
+use Rattle.std.specs.Prelude.{◌≡◌, ◌<◌, ℕ, Bool, true, All, List, length, map}
 use Rattle.metric_book.specs.Journals.{Standing}
 use Rattle.metric_book.specs.declared.slip.Slip.{Slip}
 use Rattle.metric_core.specs.Cells.{CellKept, CellValue}
@@ -9,26 +9,32 @@ use Rattle.metric_plan.specs.Plans.{PlanValue}
 use Rattle.metric_seat.specs.declared.total.Total.{Total}
 use Rattle.metric_seat.specs.Seats.{RecorderValue}
 use Rattle.metric_seat.specs.Settlements.{has_each}
+use Rattle.metric_provider.specs.Lanes.{kept_by}
 use Rattle.metric_provider.specs.Totals.{AreSettled, Finishes, number_of, slips_of_seats}
 use Rattle.metric_provider.specs.Totals.{told_totals}
 
--- # instruments behind the locks (profile)
--- One for each lock, in their order, each as a cell is kept.
-pub record AreLocked {B : Type 0} (standing : B → Standing) (locks : ℕ) (cells : List (CellValue B))
-    : Type 0 where
-  pub one_each : length cells ≡ locks
+-- # instruments behind the locks (profile) [AreLanes, AreLocked]
+-- An instrument has one lane or more, one behind each lock, each as a cell is kept.
+pub record AreLanes {B : Type 0} (standing : B → Standing) (cells : List (CellValue B)) : Type 0 where
+  pub some : 0 < length cells
   pub kept : All (CellKept standing) cells
 
+-- So many instruments, in their order, each with its lanes.
+pub record AreLocked {B : Type 0} (standing : B → Standing) (instruments : ℕ)
+    (lanes : List (List (CellValue B))) : Type 0 where
+  pub one_each : length lanes ≡ instruments
+  pub kept : All (AreLanes standing) lanes
+
 -- # journals behind the locks (profile)
--- What the book of each of these instruments keeps, oldest first, in their order; each is settled
+-- What the books of each of these instruments keep, oldest first, in their order; each is settled
 -- by the seats of all recorders, or of some.
 pub record AreLockedJournals {B : Type 0} (whole : Bool) (standing : B → Standing)
     (kept : B → List Entry) (instruments : List Facts) (seats : List RecorderValue)
     (journals : List (List Entry)) : Type 0 where
-  pub cells : List (CellValue B)
-  pub locked : AreLocked standing (length instruments) cells
-  pub settled : AreSettled whole kept instruments cells seats
-  pub are : journals ≡ map (λ (c : CellValue B). kept c.book) cells
+  pub lanes : List (List (CellValue B))
+  pub locked : AreLocked standing (length instruments) lanes
+  pub settled : AreSettled whole kept instruments lanes seats
+  pub are : journals ≡ map (kept_by kept) lanes
 
 -- # comes to (profile) [ComesTo, IsEndOf]
 -- What a provider comes to by the seats that are there: the totals are what their recorders were

@@ -9,7 +9,7 @@ use Rattle.metric_seat.specs.declared.fault.FinishFault.{FinishFault}
 use Rattle.metric_provider.specs.declared.fault.RollFault.{RollFault}
 use Rattle.metric_provider.specs.declared.fault.RollFault.TheVariants.{SameRun, Early}
 use Rattle.metric_provider.specs.declared.fault.RollFault.TheVariants.{Finish}
-use Rattle.metric_provider.specs.Locked.{AreLocked}
+use Rattle.metric_provider.specs.Locked.{AreLanes, AreLocked}
 use Rattle.metric_seat.specs.Seats.{CollectorValue, RecorderValue, new_collector, new_recorder}
 use Rattle.metric_provider.specs.Totals.{RefusesFinish}
 
@@ -27,22 +27,32 @@ new_collectors run start plan =
     map (new_collector run start (length plan.facts.instruments))
     (range_with_len 0 (length plan.config.readers))
 
--- the greatest time of a last batch of the readers of these instruments; the start of the run
--- before one, 0 without instruments
+-- the greatest time of a last batch of the readers of these lanes; the start of the run before one,
+-- 0 without lanes
 abbrev pub latest_of : {B : Type 0} → List (CellValue B) → ℕ
 latest_of cells = fold max 0 (map latest cells)
 
--- The time is that of the instruments behind so many locks.
-pub record IsLatest {B : Type 0} (standing : B → Standing) (locks time : ℕ) : Type 0 where
-  pub cells : List (CellValue B)
-  pub locked : AreLocked standing locks cells
-  pub is : time ≡ latest_of cells
+-- the same of instruments with several lanes
+abbrev pub latest_of_all : {B : Type 0} → List (List (CellValue B)) → ℕ
+latest_of_all lanes = fold max 0 (map latest_of lanes)
 
--- The time is that of one instrument behind a lock.
-pub record IsTimeBehind {B : Type 0} (standing : B → Standing) (time : ℕ) : Type 0 where
+-- The time is that of so many instruments behind their locks.
+pub record IsLatest {B : Type 0} (standing : B → Standing) (locks time : ℕ) : Type 0 where
+  pub lanes : List (List (CellValue B))
+  pub locked : AreLocked standing locks lanes
+  pub is : time ≡ latest_of_all lanes
+
+-- The time is that of one lane behind its lock.
+pub record IsTimeOfLane {B : Type 0} (standing : B → Standing) (time : ℕ) : Type 0 where
   pub cell : CellValue B
   pub kept : CellKept standing cell
   pub is : time ≡ latest cell
+
+-- The time is that of the lanes of one instrument behind their locks.
+pub record IsTimeBehind {B : Type 0} (standing : B → Standing) (time : ℕ) : Type 0 where
+  pub cells : List (CellValue B)
+  pub kept : AreLanes standing cells
+  pub is : time ≡ latest_of cells
 
 -- Each of these told a time, in their order, and this is the greatest of them, 0 without any.
 pub record TellsLatest {T : Type 0} (tells : T → ℕ → Type 0) (all : List T) (time : ℕ) : Type 0 where

@@ -1,5 +1,5 @@
 -- What a provider comes to when it is finished.
-use Rattle.std.specs.Prelude.{◌≡◌, ◌+◌, ℕ, Bool, true, not, ◌||◌, ◌==◌, All, List, [], ◌∷◌, Some}
+use Rattle.std.specs.Prelude.{◌≡◌, ◌<◌, ◌+◌, ◌^◌, ℕ, Bool, true, not, ◌||◌, ◌==◌, All, List, [], ◌∷◌, Some}
 use Rattle.std.specs.Prelude.{Result, Ok, Err, filter, length, map, slice_get, if◌then◌else◌}
 use Rattle.std.specs.List.{list_all, range_with_len}
 use Rattle.metric_base.specs.Steps.{◌>>=◌, require}
@@ -22,6 +22,7 @@ use Rattle.metric_seat.specs.Seats.{ProviderValue, RecorderValue, is_recorder_of
 use Rattle.metric_seat.specs.Settlements.{IsToldBy, are_distinct, has_each, has_seat, told_count}
 use Rattle.metric_seat.specs.Settlements.{told_sum, told_total}
 use Rattle.metric_slot.specs.declared.told.Told.{Told}
+use Rattle.metric_provider.specs.Lanes.{count_over, kept_by, numbers_over}
 
 -- the number of a seat's recorder
 abbrev pub number_of : RecorderValue → ℕ
@@ -73,28 +74,30 @@ AreNoted seats instrument entries =
     All (λ (seat : RecorderValue). slips_at seat instrument ≡ slips_of seat.number entries) seats
 
 -- # settled (profile) [IsSettled, AreSettled, AreNoted]
--- A cell has the plan's facts, its numbers are by what the recorders were told, of which all have
--- seats or some, and each recorder's slips are its entries among those that the book keeps.
+-- Each lane of an instrument has the plan's facts, a u64 counts their recordings, their numbers
+-- together are by what the recorders were told, of which all have seats or some, and each
+-- recorder's slips are its entries among those that the books keep.
 pub record IsSettled {B : Type 0} (whole : Bool) (kept : B → List Entry) (own : Facts)
-    (c : CellValue B) (seats : List RecorderValue) (instrument : ℕ) : Type 0 where
-  pub facts : c.facts ≡ own
-  pub numbers : IsToldBy whole number_of (told_on instrument) c seats
-  pub noted : AreNoted seats instrument (kept c.book)
+    (cells : List (CellValue B)) (seats : List RecorderValue) (instrument : ℕ) : Type 0 where
+  pub facts : All (λ (c : CellValue B). c.facts ≡ own) cells
+  pub few : count_over cells < 2 ^ 64
+  pub numbers : IsToldBy whole number_of (told_on instrument) (numbers_over own.lo cells) seats
+  pub noted : AreNoted seats instrument (kept_by kept cells)
 
--- the cell of each instrument is
-abbrev pub AreSettled : {B : Type 0} → Bool → (B → List Entry) → List Facts → List (CellValue B)
-    → List RecorderValue → Type 0
-AreSettled {B} whole kept instruments cells seats =
-    (i : ℕ) (own : Facts) (c : CellValue B) → slice_get instruments i ≡ Some own
-    → slice_get cells i ≡ Some c → IsSettled whole kept own c seats i
+-- the lanes of each instrument are
+abbrev pub AreSettled : {B : Type 0} → Bool → (B → List Entry) → List Facts
+    → List (List (CellValue B)) → List RecorderValue → Type 0
+AreSettled {B} whole kept instruments lanes seats =
+    (i : ℕ) (own : Facts) (cells : List (CellValue B)) → slice_get instruments i ≡ Some own
+    → slice_get lanes i ≡ Some cells → IsSettled whole kept own cells seats i
 
--- what refuses the totals: some cell is not, or memory was refused
+-- what refuses the totals: those of some instrument are not, or memory was refused
 abbrev pub RefusesTotals : {B : Type 0} → Bool → (B → List Entry) → List Facts
-    → List (CellValue B) → List RecorderValue → FinishFault → Type 0
-RefusesTotals whole kept instruments cells seats AuditMismatch =
-    AreSettled whole kept instruments cells seats → ⊥
-RefusesTotals whole kept instruments cells seats Memory = Unit {0}
-RefusesTotals whole kept instruments cells seats other = ⊥
+    → List (List (CellValue B)) → List RecorderValue → FinishFault → Type 0
+RefusesTotals whole kept instruments lanes seats AuditMismatch =
+    AreSettled whole kept instruments lanes seats → ⊥
+RefusesTotals whole kept instruments lanes seats Memory = Unit {0}
+RefusesTotals whole kept instruments lanes seats other = ⊥
 
 -- what refuses to finish with these seats: their own fault, else what the totals refuse
 abbrev pub RefusesFinish : Result (Unit {0}) FinishFault → FinishFault → Type 0
@@ -146,12 +149,12 @@ pub record AreToldJournals (keeps : Bool) (instruments : List Facts) (seats : Li
       → slice_get journals i ≡ Some journal
       → IsToldJournal keeps own seats i journal
 
--- the entries that the book of each cell keeps are such a journal
+-- the entries that the books of each instrument's lanes keep are such a journal
 abbrev pub KeepToldJournals : {B : Type 0} → (B → List Entry) → Bool → List Facts
-    → List (CellValue B) → List RecorderValue → Type 0
-KeepToldJournals {B} kept keeps instruments cells seats =
-    (i : ℕ) (own : Facts) (c : CellValue B) → slice_get instruments i ≡ Some own
-    → slice_get cells i ≡ Some c → IsToldJournal keeps own seats i (kept c.book)
+    → List (List (CellValue B)) → List RecorderValue → Type 0
+KeepToldJournals {B} kept keeps instruments lanes seats =
+    (i : ℕ) (own : Facts) (cells : List (CellValue B)) → slice_get instruments i ≡ Some own
+    → slice_get lanes i ≡ Some cells → IsToldJournal keeps own seats i (kept_by kept cells)
 
 -- What a finished provider comes to: the totals are what the recorders were told, there is a
 -- journal of each instrument, and the slips are those of the seats, which are each recorder's

@@ -8,17 +8,16 @@ ghost use Rattle.metric_provider.specs.Totals.{AreToldJournals, Finishes, Refuse
 
 use crate::gate::Gate;
 use crate::journals::{journals_of, slips_of_seats};
-use crate::provider::{Locked, Provider};
+use crate::lanes::{Lanes, OpenLanes};
+use crate::provider::Provider;
 use crate::recorder::Recorder;
 use crate::settling::{has_all, settle};
 use crate::totals::{Finished, Partly, Totals};
-use crossbeam_utils::CachePadded;
 use metric_book::Book;
 use metric_plan::Plan;
 use metric_seat::{FinishFault, are_distinct, has_seat};
-use metric_slot::Slot;
 use std::alloc::{AllocError, Global};
-use std::sync::{Mutex, Wait};
+use std::sync::Wait;
 
 impl<B: Book, G: Gate> Provider<B, G> {
     /// Ends the provider, by the seats of all its recorders in any order. What its instruments come to is exactly what
@@ -180,7 +179,7 @@ fn settle_seated<B: Book>(
     alloc: Global,
     plan: &Plan,
     run: u64,
-    locked: &mut Vec<Locked<B>>,
+    locked: &mut Vec<Lanes<B>>,
     recorders: &[Recorder],
     all: bool,
 ) -> Result<Partly, FinishFault>
@@ -206,7 +205,7 @@ fn settle_seated<B: Book>(
 fn settle_partly<B: Book>(
     alloc: Global,
     plan: &Plan,
-    locked: &mut Vec<Locked<B>>,
+    locked: &mut Vec<Lanes<B>>,
     recorders: &[Recorder],
 ) -> Result<Partly, FinishFault>
     requires { vec_len locked.old ≡ length plan.now.facts.instruments }
@@ -237,7 +236,7 @@ fn missing_of(alloc: Global, recorders: &[Recorder], count: usize) -> Result<Vec
 pub(crate) fn settle_locked<B: Book>(
     alloc: Global,
     plan: &Plan,
-    locked: &mut Vec<Locked<B>>,
+    locked: &mut Vec<Lanes<B>>,
     recorders: &[Recorder],
 ) -> Result<Totals, FinishFault>
     requires { vec_len locked.old ≡ length plan.now.facts.instruments }
@@ -247,37 +246,37 @@ pub(crate) fn settle_locked<B: Book>(
     ensures refused { IfErr result (λ fault. RefusesFinish (Ok tt) fault) }
     ensures back { OnErr result (vec_len locked.new ≡ vec_len locked.old) }
 {
-    let mut slots = Vec::with_capacity(alloc, locked.len())?;
-    take_out(locked, &mut slots);
-    slots.as_mut_slice().reverse();
-    match totals_of(alloc, plan, slots.as_slice(), recorders) {
+    let mut unlocked = Vec::with_capacity(alloc, locked.len())?;
+    take_out(locked, &mut unlocked);
+    unlocked.as_mut_slice().reverse();
+    match totals_of(alloc, plan, unlocked.as_slice(), recorders) {
         Ok(totals) => Ok(totals),
         Err(fault) => {
-            slots.as_mut_slice().reverse();
-            put_back(&mut slots, locked);
+            unlocked.as_mut_slice().reverse();
+            put_back(&mut unlocked, locked);
             Err(fault)
         }
     }
 }
 
-// The totals of the slots, their journals, and the slips of the seats.
+// The totals of the instruments, their journals, and the slips of the seats.
 fn totals_of<B: Book>(
     alloc: Global,
     plan: &Plan,
-    slots: &[Slot<B>],
+    unlocked: &[OpenLanes<B>],
     recorders: &[Recorder],
 ) -> Result<Totals, FinishFault>
-    requires { length slots.now ≡ length plan.now.facts.instruments }
+    requires { length unlocked.now ≡ length plan.now.facts.instruments }
     ensures totals { IfOk result (λ totals. let sums = totals.instruments.items in
         ComesTo B.stands B.kept B.KEEPS_ENTRIES
         plan.now recorders.now sums totals.journals.items totals.slips.items) }
     ensures refused { IfErr result (λ fault. RefusesFinish (Ok tt) fault) }
 {
-    match settle(alloc, plan, slots, recorders) {
+    match settle(alloc, plan, unlocked, recorders) {
         Ok(instruments) => {
             let numbers = plan.catalogue().recorders().len() as u32;
             let count = plan.catalogue().instruments().len() as u32;
-            let journals = journals_of(alloc, slots)?;
+            let journals = journals_of(alloc, unlocked)?;
             let slips = slips_of_seats(alloc, recorders, numbers, count)?;
             Ok(Totals {
                 instruments,
@@ -289,25 +288,25 @@ fn totals_of<B: Book>(
     }
 }
 
-/// Takes the slots out of their locks, the last one first.
-pub(crate) fn take_out<B: Book>(locked: &mut Vec<Locked<B>>, slots: &mut Vec<Slot<B>>)
-    requires room { vec_len slots.old + vec_len locked.old ≤ vec_capacity slots.old }
-    ensures slots { vec_len slots.new ≡ vec_len slots.old + vec_len locked.old }
+// Takes the instruments out of their locks, the last one first.
+fn take_out<B: Book>(locked: &mut Vec<Lanes<B>>, unlocked: &mut Vec<OpenLanes<B>>)
+    requires room { vec_len unlocked.old + vec_len locked.old ≤ vec_capacity unlocked.old }
+    ensures unlocked { vec_len unlocked.new ≡ vec_len unlocked.old + vec_len locked.old }
     ensures room { vec_capacity locked.new ≡ vec_capacity locked.old }
     ensures none { vec_len locked.new ≡ 0 }
 {
-    while let Some(slot) = locked.pop() {
-        slots.push_reserved(slot.into_inner().into_inner());
+    while let Some(lanes) = locked.pop() {
+        unlocked.push_reserved(lanes.unlock());
     }
 }
 
-/// Puts the slots behind locks, the last one first.
-pub(crate) fn put_back<B: Book>(slots: &mut Vec<Slot<B>>, locked: &mut Vec<Locked<B>>)
-    requires room { vec_len locked.old + vec_len slots.old ≤ vec_capacity locked.old }
-    ensures { vec_len locked.new ≡ vec_len locked.old + vec_len slots.old }
+// Puts the instruments behind their locks, the last one first.
+fn put_back<B: Book>(unlocked: &mut Vec<OpenLanes<B>>, locked: &mut Vec<Lanes<B>>)
+    requires room { vec_len locked.old + vec_len unlocked.old ≤ vec_capacity locked.old }
+    ensures { vec_len locked.new ≡ vec_len locked.old + vec_len unlocked.old }
 {
-    while let Some(slot) = slots.pop() {
-        locked.push_reserved(CachePadded::new(Mutex::new(slot)));
+    while let Some(lanes) = unlocked.pop() {
+        locked.push_reserved(lanes.lock());
     }
 }
 

@@ -10,7 +10,8 @@ ghost use Rattle.metric_seat.specs.Recordings.{RefusesRecording};
 ghost use Rattle.metric_slot.specs.Tellings.{told_more};
 
 use crate::gate::Gate;
-use crate::provider::Locked;
+use crate::governing::{Asked, close_from, grant_from};
+use crate::lanes::Lanes;
 use metric_book::Book;
 use metric_contents::Refusal;
 use metric_facts::Facts;
@@ -41,17 +42,17 @@ pub(crate) trait Governed {
         ensures made { closes self.old self.new result };
 }
 
-/// A provider's instrument of some number: its slot behind the lock, if the provider has it, and the gate.
+/// A provider's instrument of some number: its lanes behind their locks, if the provider has it, and the gate.
 #[derive(Drop)]
 pub(crate) struct Inside<'a, R, B: Book, G> {
     pub rt: &'a R,
-    pub slot: Option<&'a Locked<B>>,
+    pub lanes: Option<&'a Lanes<B>>,
     pub gate: &'a G,
     pub instrument: u32,
 }
 
-// Each call takes the lock once, makes its step, and calls the gate before it lets go. What becomes of the slot is
-// known of no lock; tests see it.
+// A recording takes the lock of its recorder's lane; a grant and the end take the locks of all lanes. Each step is made
+// once, and the gate is called before a lock is let go. What becomes of a slot is known of no lock; tests see it.
 impl<R: Wait, B: Book, G: Gate> Held<B> for Inside<'_, R, B, G> {
     ghost records = { λ _ _ _ _ _ _ _. Unit {0} };
 
@@ -64,13 +65,13 @@ impl<R: Wait, B: Book, G: Gate> Held<B> for Inside<'_, R, B, G> {
         recorder: u32,
         all: &[Measurement],
     ) -> Result<(), SetsFault> {
-        let Some(locked) = self.slot else {
+        let Some(lanes) = self.lanes else {
             return Err(SetsFault {
                 place: 0,
                 refusal: Refusal::Stranger,
             });
         };
-        let slot: &Mutex<Slot<B>> = locked;
+        let slot: &Mutex<Slot<B>> = lanes.lane_of(recorder);
         let mut guard = slot.lock(self.rt);
         record_each(self.rt, self.gate, &mut guard, facts, told, recorder, all)
     }
@@ -82,25 +83,26 @@ impl<R: Wait, B: Book, G: Gate> Governed for Inside<'_, R, B, G> {
     ghost closes = { λ _ _ _. Unit {0} };
 
     fn grant(&mut self, facts: &Facts, recorder: u32, amount: u64) -> Result<(), Refusal> {
-        let Some(locked) = self.slot else {
+        let Some(lanes) = self.lanes else {
             return Err(Refusal::Closed);
         };
-        let slot: &Mutex<Slot<B>> = locked;
-        let mut guard = slot.lock(self.rt);
-        let answer = grant(&mut guard, facts, recorder, amount);
-        self.gate.inside(self.rt, self.instrument);
-        answer
+        let asked = Asked {
+            facts,
+            recorder,
+            amount,
+            lane: lanes.place_of(recorder),
+        };
+        match grant_from(self.rt, self.gate, lanes.all(), &asked, 0, facts.spare) {
+            Ok(()) => Ok(()),
+            Err(refusal) => Err(refusal),
+        }
     }
 
     fn close(&mut self) -> Result<(), Refusal> {
-        let Some(locked) = self.slot else {
+        let Some(lanes) = self.lanes else {
             return Err(Refusal::Closed);
         };
-        let slot: &Mutex<Slot<B>> = locked;
-        let mut guard = slot.lock(self.rt);
-        let answer = guard.close();
-        self.gate.inside(self.rt, self.instrument);
-        answer
+        close_from(self.rt, self.gate, lanes.all(), self.instrument, 0)
     }
 }
 
@@ -116,10 +118,10 @@ impl<R: Wait, B: Book, G: Gate> Collected for Inside<'_, R, B, G> {
         reader: u32,
         now: u64,
     ) -> Result<Batch, Refusal> {
-        let Some(locked) = self.slot else {
+        let Some(lanes) = self.lanes else {
             return Err(Refusal::Stranger);
         };
-        let slot: &Mutex<Slot<B>> = locked;
+        let slot: &Mutex<Slot<B>> = lanes.first();
         let mut guard = slot.lock(self.rt);
         let answer = guard.collect(alloc, facts, start, seen, reader, now);
         self.gate.inside(self.rt, self.instrument);
@@ -127,9 +129,9 @@ impl<R: Wait, B: Book, G: Gate> Collected for Inside<'_, R, B, G> {
     }
 }
 
-// Grants a recorder recordings of a slot. One with other facts takes no recordings of the plan's recorders, so that to
-// them it is closed.
-fn grant<B: Book>(
+/// Grants a recorder recordings of a slot. One with other facts takes no recordings of the plan's recorders, so that to
+/// them it is closed.
+pub(crate) fn grant<B: Book>(
     slot: &mut Slot<B>,
     facts: &Facts,
     recorder: u32,

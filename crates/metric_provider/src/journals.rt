@@ -1,8 +1,11 @@
 //! The journals and slips that are handed out at the end.
-ghost use Rattle.std.specs.Prelude.{◌≡◌, All, map, IfOk, OnOk};
+ghost use Rattle.std.specs.Prelude.{◌≡◌, ◌++◌, All, map, IfOk, OnOk};
 ghost use Rattle.metric_core.specs.Cells.{CellKept};
+ghost use Rattle.metric_provider.specs.Lanes.{kept_by};
+ghost use Rattle.metric_provider.specs.Locked.{AreLanes};
 ghost use Rattle.metric_provider.specs.Totals.{slips_by, slips_of_seats, slips_on};
 
+use crate::lanes::OpenLanes;
 use crate::recorder::Recorder;
 use metric_base::Items;
 use metric_book::{Book, Slip};
@@ -10,29 +13,42 @@ use metric_history::Entry;
 use metric_slot::Slot;
 use std::alloc::{AllocError, Global};
 
-/// What the book of each slot keeps. Fails only where memory is refused.
+/// What the books of each instrument keep. Fails only where memory is refused.
 pub(crate) fn journals_of<B: Book>(
     alloc: Global,
-    slots: &[Slot<B>],
+    unlocked: &[OpenLanes<B>],
 ) -> Result<Vec<Items<Entry>>, AllocError>
-    ensures journals { IfOk result (λ journals.
-        journals.items ≡ map (λ c. B.kept c.book) slots.now) }
-    ensures kept { OnOk result (All (CellKept B.stands) slots.now) }
+    ensures journals { IfOk result (λ journals. journals.items ≡ map (kept_by B.kept) unlocked.now) }
+    ensures kept { OnOk result (All (AreLanes B.stands) unlocked.now) }
 {
     let mut journals = Vec::new(alloc);
-    for slot in slots {
-        journals.push(journal_of(alloc, slot)?)?;
+    for lanes in unlocked {
+        journals.push(journal_of(alloc, lanes.slots())?)?;
     }
     Ok(journals)
 }
 
-// What the book of a slot keeps.
-fn journal_of<B: Book>(alloc: Global, slot: &Slot<B>) -> Result<Items<Entry>, AllocError>
-    ensures journal { IfOk result (λ journal. journal ≡ B.kept slot.now.book) }
-    ensures kept { OnOk result (CellKept B.stands slot.now) }
+/// What the books of an instrument's lanes keep, one lane after the other. Fails only where memory is refused.
+pub(crate) fn journal_of<B: Book>(
+    alloc: Global,
+    lanes: &[Slot<B>],
+) -> Result<Items<Entry>, AllocError>
+    ensures journal { IfOk result (λ journal. journal ≡ kept_by B.kept lanes.now) }
+    ensures kept { OnOk result (All (CellKept B.stands) lanes.now) }
 {
-    let entries = Vec::from_slice(alloc, slot.cell().entries())?;
+    let mut entries = Vec::new(alloc);
+    for slot in lanes {
+        push_entries(&mut entries, slot)?;
+    }
     Ok(Items::from_vec(entries))
+}
+
+// Puts what the book of a lane keeps last.
+fn push_entries<B: Book>(entries: &mut Vec<Entry>, slot: &Slot<B>) -> Result<(), AllocError>
+    ensures entries { OnOk result (entries.new.items ≡ entries.old.items ++ B.kept slot.now.book) }
+    ensures kept { CellKept B.stands slot.now }
+{
+    entries.extend_from_slice(slot.cell().entries())
 }
 
 /// The slips of each recorder on each instrument, of so many of both. Fails only where memory is refused.

@@ -8,18 +8,15 @@ ghost use Rattle.metric_slot.specs.Slots.{AreCertified};
 
 use crate::gate::Gate;
 use crate::held::{Governed, Inside};
-use crossbeam_utils::CachePadded;
+use crate::lanes::Lanes;
 use metric_book::Book;
 use metric_contents::Refusal;
 use metric_plan::Plan;
-use metric_slot::{Slot, certified_facts_are_safe};
+use metric_slot::certified_facts_are_safe;
 use std::marker::Model;
-use std::sync::{Mutex, Wait};
+use std::sync::Wait;
 
-/// An instrument behind its lock, on cache lines of its own.
-pub(crate) type Locked<B> = CachePadded<Mutex<Slot<B>>>;
-
-/// The instruments of a certified plan, each behind a lock of its own (Metrics SDK, meter provider). Threads share it
+/// The instruments of a certified plan, each behind locks of its own (Metrics SDK, meter provider). Threads share it
 /// by reference, and record and collect with their seats, the [`Recorder`](crate::Recorder)s and
 /// [`Collector`](crate::Collector)s.
 ///
@@ -29,7 +26,7 @@ pub struct Provider<B: Book, G: Gate> {
     plan: Plan,
     run: u64,
     gate: G,
-    slots: Vec<Locked<B>>,
+    slots: Vec<Lanes<B>>,
 }
 
 impl<B: Book, G: Gate> Drop for Provider<B, G> {
@@ -58,7 +55,7 @@ impl<B: Book, G: Gate> Model for Provider<B, G> {
 
 impl<B: Book, G: Gate> Provider<B, G> {
     // The provider of a certified plan with the slots of its instruments.
-    pub(crate) fn from_slots(plan: Plan, run: u64, gate: G, slots: Vec<Locked<B>>) -> Provider<B, G>
+    pub(crate) fn from_slots(plan: Plan, run: u64, gate: G, slots: Vec<Lanes<B>>) -> Provider<B, G>
         requires { IsProvider plan (vec_len slots) }
         ensures { result ≡ provider_of plan run }
     {
@@ -71,7 +68,7 @@ impl<B: Book, G: Gate> Provider<B, G> {
     }
 
     // The plan, the run, the gate and the slots.
-    pub(crate) fn into_slots(self) -> (Plan, u64, G, Vec<Locked<B>>)
+    pub(crate) fn into_slots(self) -> (Plan, u64, G, Vec<Lanes<B>>)
         ensures value { provider_of result.0 result.1 ≡ self }
         ensures kept { IsProvider result.0 (vec_len result.3) }
     {
@@ -99,7 +96,7 @@ impl<B: Book, G: Gate> Provider<B, G> {
     }
 
     // The instruments behind their locks, in order.
-    pub(crate) fn slots(&self) -> &[Locked<B>]
+    pub(crate) fn slots(&self) -> &[Lanes<B>]
         ensures { length result.now ≡ length self.now.plan.facts.instruments }
     {
         self.slots.as_slice()
@@ -143,11 +140,11 @@ impl<B: Book, G: Gate> Provider<B, G> {
         grant_held(&mut held, &self.plan, recorder, instrument, amount)
     }
 
-    // The instrument of a number behind its lock.
+    // The instrument of a number behind its locks.
     pub(crate) fn inside<'a, R>(&'a self, rt: &'a R, instrument: u32) -> Inside<'a, R, B, G> {
         Inside {
             rt,
-            slot: self.slots.get(instrument as usize),
+            lanes: self.slots.get(instrument as usize),
             gate: &self.gate,
             instrument,
         }

@@ -10,7 +10,8 @@ use crate::collector::Collector;
 use crate::fault::RollFault;
 use crate::finish::{seated_by, settle_locked};
 use crate::gate::Gate;
-use crate::provider::{Locked, Provider};
+use crate::lanes::Lanes;
+use crate::provider::Provider;
 use crate::recorder::Recorder;
 use crate::starting::new_parts;
 use crate::timed::latest_of;
@@ -163,7 +164,7 @@ struct NextRun {
 // What a provider comes to, and what the next one is made of.
 struct RolledParts<B: Book> {
     totals: Totals,
-    slots: Vec<Locked<B>>,
+    slots: Vec<Lanes<B>>,
     recorders: Vec<Recorder>,
     collectors: Vec<Collector>,
 }
@@ -181,7 +182,7 @@ fn seated_parts<B: Book>(
     alloc: Global,
     plan: &Plan,
     run: u64,
-    locked: &mut Vec<Locked<B>>,
+    locked: &mut Vec<Lanes<B>>,
     recorders: &[Recorder],
     next: NextRun,
 ) -> Result<RolledParts<B>, FinishFault>

@@ -8,6 +8,7 @@ ghost use Rattle.metric_seat.specs.Seats.{is_recorder_of};
 ghost use Rattle.metric_slot.specs.declared.told.Told.{Told as tellings};
 
 use crate::gate::Gate;
+use crate::governing::spare_from;
 use crate::held::Inside;
 use crate::provider::Provider;
 use crate::recorder::Recorder;
@@ -64,18 +65,18 @@ impl<B: Book> Budgeted for Slot<B> {
     }
 }
 
-// Each call takes the lock once, asks, and calls the gate before it lets go. What the slot is then is known of no
-// lock; tests see it.
+// A recorder's room is asked under the lock of its lane, the spare under those of all lanes; the gate is called before
+// they are let go. What a slot is then is known of no lock; tests see it.
 impl<R: Wait, B: Book, G: Gate> Budgeted for Inside<'_, R, B, G> {
     ghost tells_room = { λ _ _ _ _ _. Unit {0} };
 
     ghost tells_spare = { λ _ _ _. Unit {0} };
 
     fn room(&self, facts: &Facts, recorder: u32, told: &Told) -> Result<u64, Refusal> {
-        let Some(locked) = self.slot else {
+        let Some(lanes) = self.lanes else {
             return Err(Refusal::Stranger);
         };
-        let slot: &Mutex<Slot<B>> = locked;
+        let slot: &Mutex<Slot<B>> = lanes.lane_of(recorder);
         let guard = slot.lock(self.rt);
         let slot: &Slot<B> = &guard;
         let answer = Budgeted::room(slot, facts, recorder, told);
@@ -84,15 +85,10 @@ impl<R: Wait, B: Book, G: Gate> Budgeted for Inside<'_, R, B, G> {
     }
 
     fn spare_left(&self, facts: &Facts) -> Result<u64, Refusal> {
-        let Some(locked) = self.slot else {
+        let Some(lanes) = self.lanes else {
             return Err(Refusal::Stranger);
         };
-        let slot: &Mutex<Slot<B>> = locked;
-        let guard = slot.lock(self.rt);
-        let slot: &Slot<B> = &guard;
-        let answer = Budgeted::spare_left(slot, facts);
-        self.gate.inside(self.rt, self.instrument);
-        answer
+        spare_from(self.rt, self.gate, lanes.all(), facts, 0, facts.spare)
     }
 }
 

@@ -1,50 +1,62 @@
 //! The instruments compared with what their recorders were told.
-ghost use Rattle.std.specs.Prelude.{◌≡◌, ◌↔◌, IsTrue, true, IfNone, IfOk, IfErr, IfSome, OnOk, OnSome, Some, length, slice_get};
+ghost use Rattle.std.specs.Prelude.{◌≡◌, ◌↔◌, All, IsTrue, true, IfNone, IfOk, IfErr, IfSome, OnOk, OnSome, Some, length, slice_get};
 ghost use Rattle.metric_book.specs.Slips.{slip_of, slips_of};
+ghost use Rattle.metric_core.specs.Cells.{CellKept};
+ghost use Rattle.metric_provider.specs.Lanes.{kept_by};
 ghost use Rattle.metric_seat.specs.Settlements.{IsToldBy, has_each, told_total};
 ghost use Rattle.metric_provider.specs.Totals.{AreNoted, AreSettled, IsSettled, IsToldJournal, KeepToldJournals, RefusesTotals, number_of, told_on, told_totals};
 
+use crate::journals::journal_of;
+use crate::lanes::OpenLanes;
 use crate::recorder::Recorder;
+use crate::together::{Together, is_counted};
 use metric_book::{Book, Slip};
-use metric_core::Cell;
-use metric_facts::{Facts, same_facts};
+use metric_facts::Facts;
 use metric_history::Entry;
 use metric_plan::Plan;
-use metric_seat::{FinishFault, Total, has_each, total_of_all, total_of_some};
+use metric_seat::{Counted, FinishFault, Total, has_each, total_of_all, total_of_some};
 use metric_slot::Slot;
 use std::alloc::Global;
 
-/// What recorders were told of each instrument, where each has the facts of the plan for its place, its numbers are
-/// what the recorders were told, and the entries that its book keeps are those of which they have slips; else
-/// `AuditMismatch`. The only other fault is `Memory`. Where a recorder of the plan has no seat among them, nothing is
-/// known of what it was told, and the counts and sums of the instruments are compared with nothing.
+/// What recorders were told of each instrument, where its lanes have the facts of the plan for its place, their numbers
+/// together are what the recorders were told, and the entries that their books keep are those of which they have slips;
+/// else `AuditMismatch`. The only other fault is `Memory`. Where a recorder of the plan has no seat among them, nothing
+/// is known of what it was told, and the counts and sums of the instruments are compared with nothing.
 pub fn settle<B: Book>(
     alloc: Global,
     plan: &Plan,
-    slots: &[Slot<B>],
+    unlocked: &[OpenLanes<B>],
     recorders: &[Recorder],
 ) -> Result<Vec<Total>, FinishFault>
-    requires { length slots.now ≡ length plan.now.facts.instruments }
+    requires { length unlocked.now ≡ length plan.now.facts.instruments }
     ensures totals { IfOk result (λ totals.
         totals.items ≡ told_totals recorders.now 0 plan.now.facts.instruments) }
     ensures settled { let instruments = plan.now.facts.instruments in
         let whole = has_each number_of recorders.now (length plan.now.facts.contents.recorders) in
-        OnOk result (AreSettled whole B.kept instruments slots.now recorders.now) }
+        OnOk result (AreSettled whole B.kept instruments unlocked.now recorders.now) }
     ensures journals { let instruments = plan.now.facts.instruments in
         let whole = has_each number_of recorders.now (length plan.now.facts.contents.recorders) in
         OnOk result (whole ≡ true →
-        KeepToldJournals B.kept B.KEEPS_ENTRIES instruments slots.now recorders.now) }
+        KeepToldJournals B.kept B.KEEPS_ENTRIES instruments unlocked.now recorders.now) }
     ensures refused { let instruments = plan.now.facts.instruments in
         let whole = has_each number_of recorders.now (length plan.now.facts.contents.recorders) in
-        IfErr result (RefusesTotals whole B.kept instruments slots.now recorders.now) }
+        IfErr result (RefusesTotals whole B.kept instruments unlocked.now recorders.now) }
 {
     let whole = has_all(plan, recorders);
     let count = plan.catalogue().instruments().len() as u32;
-    let mut totals = Vec::with_capacity(alloc, slots.len())?;
+    let mut totals = Vec::with_capacity(alloc, unlocked.len())?;
     for instrument in 0..count {
         let facts = plan.facts(instrument);
-        let cell = slots[instrument as usize].cell();
-        match settled(whole, facts, cell, recorders, instrument) {
+        let lanes = unlocked[instrument as usize].slots();
+        let journal = journal_of(alloc, lanes)?;
+        match settled(
+            whole,
+            facts,
+            lanes,
+            journal.as_slice(),
+            recorders,
+            instrument,
+        ) {
             Some(total) => totals.push_reserved(total),
             None => return Err(FinishFault::AuditMismatch),
         }
@@ -60,53 +72,64 @@ pub(crate) fn has_all(plan: &Plan, recorders: &[Recorder]) -> bool
     has_each(recorders, plan.catalogue().recorders().len())
 }
 
-// What recorders, all or some, were told of an instrument, where its facts are these, its numbers are by what they were
-// told, and the entries that its book keeps are those of which they have slips.
+// What recorders, all or some, were told of an instrument, where its lanes have these facts, their numbers are by what
+// they were told, and the entries that their books keep are those of which they have slips.
 fn settled<B: Book>(
     whole: bool,
     facts: &Facts,
-    cell: &Cell<B>,
+    lanes: &[Slot<B>],
+    journal: &[Entry],
     recorders: &[Recorder],
     instrument: u32,
 ) -> Option<Total>
+    requires journal { journal.now ≡ kept_by B.kept lanes.now }
+    requires kept { All (CellKept B.stands) lanes.now }
     ensures told { OnSome result (
-        IsSettled whole B.kept facts.now cell.now recorders.now instrument) }
-    ensures journal { let entries = B.kept cell.now.book in
+        IsSettled whole B.kept facts.now lanes.now recorders.now instrument) }
+    ensures journal { let entries = kept_by B.kept lanes.now in
         OnSome result (whole ≡ true →
         IsToldJournal B.KEEPS_ENTRIES facts.now recorders.now instrument entries) }
     ensures total { IfSome result (λ total.
         total ≡ told_total (told_on instrument) facts.now.lo recorders.now) }
     ensures other { IfNone result (
-        IsSettled whole B.kept facts.now cell.now recorders.now instrument → ⊥) }
+        IsSettled whole B.kept facts.now lanes.now recorders.now instrument → ⊥) }
 {
-    if !same_facts(cell.facts(), facts) {
+    if !are_of(lanes, facts) || !is_counted(lanes) {
         return None;
     }
-    let total = total_by(whole, cell, recorders, instrument)?;
-    if !are_noted(cell.entries(), recorders, instrument) {
+    let together = Together { facts, lanes };
+    let total = total_by(whole, &together, recorders, instrument)?;
+    if !are_noted(journal, recorders, instrument) {
         return None;
     }
     Some(total)
 }
 
+// Whether the lanes have these facts.
+fn are_of<B: Book>(lanes: &[Slot<B>], facts: &Facts) -> bool
+    ensures { IsTrue result ↔ All (λ c. c.facts ≡ facts.now) lanes.now }
+{
+    lanes.iter().all(|slot| slot.is_of(facts))
+}
+
 // What they were told, where the instrument's numbers are by that.
-fn total_by<B: Book>(
+fn total_by<C: Counted>(
     whole: bool,
-    cell: &Cell<B>,
+    counted: &C,
     recorders: &[Recorder],
     instrument: u32,
 ) -> Option<Total>
     ensures told { OnSome result (
-        IsToldBy whole number_of (told_on instrument) cell.now recorders.now) }
+        IsToldBy whole number_of (told_on instrument) (C.numbers counted.now) recorders.now) }
     ensures total { IfSome result (λ total.
-        total ≡ told_total (told_on instrument) cell.now.facts.lo recorders.now) }
+        total ≡ told_total (told_on instrument) (C.numbers counted.now).lo recorders.now) }
     ensures other { IfNone result (
-        IsToldBy whole number_of (told_on instrument) cell.now recorders.now → ⊥) }
+        IsToldBy whole number_of (told_on instrument) (C.numbers counted.now) recorders.now → ⊥) }
 {
     if whole {
-        total_of_all(cell, recorders, instrument)
+        total_of_all(counted, recorders, instrument)
     } else {
-        total_of_some(cell, recorders, instrument)
+        total_of_some(counted, recorders, instrument)
     }
 }
 

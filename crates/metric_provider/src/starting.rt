@@ -1,13 +1,13 @@
 //! A provider with its seats.
-ghost use Rattle.std.specs.Prelude.{◌≡◌, IsTrue, length, map, vec_len, IfOk, IfErr};
+ghost use Rattle.std.specs.Prelude.{◌≡◌, ◌≤◌, ◌+◌, IsTrue, length, map, vec_capacity, vec_len, IfOk, IfErr, OnOk};
 ghost use Rattle.std.specs.List.{range_with_len};
 ghost use Rattle.metric_provider.specs.NewSlots.{AreNewSlots};
 ghost use Rattle.metric_seat.specs.Seats.{new_collector, new_recorder, provider_of};
 
 use crate::collector::Collector;
-use crate::finish::put_back;
 use crate::gate::Gate;
-use crate::provider::{Locked, Provider};
+use crate::lanes::Lanes;
+use crate::provider::Provider;
 use crate::recorder::Recorder;
 use metric_book::Book;
 use metric_plan::Plan;
@@ -48,13 +48,13 @@ pub fn start<R: Wait, B: Book, G: Gate>(
     }
 }
 
-/// The slots, and the seats of the recorders and the readers.
+/// The instruments, and the seats of the recorders and the readers.
 pub(crate) fn new_parts<B: Book>(
     alloc: Global,
     plan: &Plan,
     start: u64,
     run: u64,
-) -> Result<(Vec<Locked<B>>, Vec<Recorder>, Vec<Collector>), AllocError>
+) -> Result<(Vec<Lanes<B>>, Vec<Recorder>, Vec<Collector>), AllocError>
     requires { IsTrue plan.now.is_certified }
     ensures slots { IfOk result (λ made. vec_len made.0 ≡ length plan.now.facts.instruments) }
     ensures recorders { IfOk result (λ made. made.1.items
@@ -98,16 +98,30 @@ fn new_slots<B: Book>(
     Ok(slots)
 }
 
-// The slots in order, each behind a lock of its own. They stand 128 bytes apart; there is room for one more, so that
-// the last one is as far from the next block of the heap.
-fn locked<B: Book>(alloc: Global, slots: Vec<Slot<B>>) -> Result<Vec<Locked<B>>, AllocError>
+// The slots in order, each the one lane of its instrument.
+fn locked<B: Book>(alloc: Global, slots: Vec<Slot<B>>) -> Result<Vec<Lanes<B>>, AllocError>
     ensures { IfOk result (λ locked. vec_len locked ≡ vec_len slots) }
 {
     let mut unlocked = slots;
-    let mut locked = Vec::with_capacity(alloc, unlocked.len().saturating_add(1))?;
+    let mut locked = Vec::with_capacity(alloc, unlocked.len())?;
     unlocked.as_mut_slice().reverse();
-    put_back(&mut unlocked, &mut locked);
+    lock_each(alloc, &mut unlocked, &mut locked)?;
     Ok(locked)
+}
+
+// Puts each slot behind a lock, the last one first. Fails only where memory is refused.
+fn lock_each<B: Book>(
+    alloc: Global,
+    slots: &mut Vec<Slot<B>>,
+    locked: &mut Vec<Lanes<B>>,
+) -> Result<(), AllocError>
+    requires room { vec_len locked.old + vec_len slots.old ≤ vec_capacity locked.old }
+    ensures { OnOk result (vec_len locked.new ≡ vec_len locked.old + vec_len slots.old) }
+{
+    while let Some(slot) = slots.pop() {
+        locked.push_reserved(Lanes::one(alloc, slot)?);
+    }
+    Ok(())
 }
 
 // The seat of each recorder, told of nothing, and whether it keeps slips.

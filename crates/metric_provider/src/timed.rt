@@ -1,8 +1,8 @@
 //! The times of instruments behind their locks.
 ghost use Rattle.std.specs.Prelude.{◌≡◌, ℕ, max};
-ghost use Rattle.metric_provider.specs.Rolling.{IsTimeBehind, TellsLatest};
+ghost use Rattle.metric_provider.specs.Rolling.{IsTimeBehind, IsTimeOfLane, TellsLatest};
 
-use crate::provider::Locked;
+use crate::lanes::{Lanes, Locked};
 use metric_book::Book;
 use metric_slot::Slot;
 use std::sync::{Mutex, Wait};
@@ -19,6 +19,16 @@ pub(crate) trait Timed {
 }
 
 impl<B: Book> Timed for Locked<B> {
+    ghost use Rattle.metric_provider.specs.Rolling.{IsTimeOfLane};
+
+    ghost tells = { λ _ time. IsTimeOfLane B.stands time };
+
+    fn latest<R: Wait>(&self, rt: &R) -> u64 {
+        time_of_lane(rt, self)
+    }
+}
+
+impl<B: Book> Timed for Lanes<B> {
     ghost use Rattle.metric_provider.specs.Rolling.{IsTimeBehind};
 
     ghost tells = { λ _ time. IsTimeBehind B.stands time };
@@ -28,13 +38,20 @@ impl<B: Book> Timed for Locked<B> {
     }
 }
 
-// That of an instrument, under its lock.
-fn time_behind<R: Wait, B: Book>(rt: &R, locked: &Locked<B>) -> u64
-    ensures { IsTimeBehind B.stands result }
+// That of a lane, under its lock.
+fn time_of_lane<R: Wait, B: Book>(rt: &R, locked: &Locked<B>) -> u64
+    ensures { IsTimeOfLane B.stands result }
 {
     let slot: &Mutex<Slot<B>> = locked;
     let guard = slot.lock(rt);
     guard.cell().latest()
+}
+
+// That of an instrument, one lane after the other.
+fn time_behind<R: Wait, B: Book>(rt: &R, lanes: &Lanes<B>) -> u64
+    ensures { IsTimeBehind B.stands result }
+{
+    latest_of(rt, lanes.all())
 }
 
 /// The greatest of their times, 0 without any.

@@ -24,6 +24,26 @@ abbrev pub has_each : {S : Type 0} → (S → ℕ) → List S → ℕ → Bool
 has_each numbered seats recorders =
     list_all (has_seat numbered seats) (range_with_len 0 recorders)
 
+-- ---- what an instrument has counted
+
+-- # counted (profile) [Numbers, numbers_of]
+-- The least value that the instrument takes, how many recordings each recorder has made, how many
+-- there are and their sum.
+pub record Numbers : Type 0 where
+  pub lo : ℤ
+  pub spent : ℕ → ℕ
+  pub count : ℕ
+  pub total : ℤ
+
+-- those of its state
+abbrev pub numbers_of : {B : Type 0} → CellValue B → Numbers
+numbers_of c = record {
+  lo = c.facts.lo;
+  spent = slice_index c.spent;
+  count = c.count;
+  total = c.total;
+}
+
 -- ---- what they were told of one instrument
 
 -- how many recordings the seats were told of
@@ -46,20 +66,20 @@ told_sum told lo seats = sum_above lo (told_count told seats) (told_amount told 
 abbrev pub told_total : {S : Type 0} → (S → Told) → ℤ → List S → Total
 told_total told lo seats = record { count = told_count told seats; sum = told_sum told lo seats }
 
--- whether a cell has as many recordings of each recorder as its seat was told of
-abbrev pub are_spent : {S : Type 0} → (S → ℕ) → (S → Told) → List ℕ → List S → Bool
+-- whether there are as many recordings of each recorder as its seat was told of
+abbrev pub are_spent : {S : Type 0} → (S → ℕ) → (S → Told) → (ℕ → ℕ) → List S → Bool
 are_spent {S} numbered told spent seats =
-    list_all (λ (seat : S). slice_index spent (numbered seat) == (told seat).count) seats
+    list_all (λ (seat : S). spent (numbered seat) == (told seat).count) seats
 
 -- # as told (profile) [IsAsTold, IsPartlyTold, IsTellable, IsToldBy]
 -- By the seats of all recorders each spent budget, the count and the sum are what they were told.
 -- By those of some, each spent budget is, and what they were told together has 64 bits, its sum 128;
--- the cell's count and sum are compared with nothing.
-pub record IsAsTold {B S : Type 0} (numbered : S → ℕ) (told : S → Told) (c : CellValue B)
+-- the count and the sum are compared with nothing.
+pub record IsAsTold {S : Type 0} (numbered : S → ℕ) (told : S → Told) (n : Numbers)
     (seats : List S) : Type 0 where
-  pub spent : are_spent numbered told c.spent seats ≡ true
-  pub count : c.count ≡ told_count told seats
-  pub sum : c.total ≡ told_sum told c.facts.lo seats
+  pub spent : are_spent numbered told n.spent seats ≡ true
+  pub count : n.count ≡ told_count told seats
+  pub sum : n.total ≡ told_sum told n.lo seats
 
 -- So many recordings, and so far above the least, have 64 bits, and their sum 128.
 pub record IsTellable (lo : ℤ) (count amount : ℕ) : Type 0 where
@@ -68,12 +88,12 @@ pub record IsTellable (lo : ℤ) (count amount : ℕ) : Type 0 where
   pub sum : FitsSigned w128 (sum_above lo count amount)
 
 -- the same by the seats of some recorders
-pub record IsPartlyTold {B S : Type 0} (numbered : S → ℕ) (told : S → Told) (c : CellValue B)
+pub record IsPartlyTold {S : Type 0} (numbered : S → ℕ) (told : S → Told) (n : Numbers)
     (seats : List S) : Type 0 where
-  pub spent : are_spent numbered told c.spent seats ≡ true
-  pub tellable : IsTellable c.facts.lo (told_count told seats) (told_amount told seats)
+  pub spent : are_spent numbered told n.spent seats ≡ true
+  pub tellable : IsTellable n.lo (told_count told seats) (told_amount told seats)
 
 -- either, by whether the seats are those of all recorders
-abbrev pub IsToldBy : {B S : Type 0} → Bool → (S → ℕ) → (S → Told) → CellValue B → List S → Type 0
-IsToldBy true numbered told c seats = IsAsTold numbered told c seats
-IsToldBy false numbered told c seats = IsPartlyTold numbered told c seats
+abbrev pub IsToldBy : {S : Type 0} → Bool → (S → ℕ) → (S → Told) → Numbers → List S → Type 0
+IsToldBy true numbered told n seats = IsAsTold numbered told n seats
+IsToldBy false numbered told n seats = IsPartlyTold numbered told n seats

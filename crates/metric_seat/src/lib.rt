@@ -3,6 +3,7 @@
 #![tactic(auto)]
 
 mod admission;
+mod counted;
 mod fault;
 mod held;
 mod keys;
@@ -13,6 +14,7 @@ mod settling;
 mod tells;
 mod total;
 
+pub use counted::Counted;
 pub use fault::{FinishFault, SetsFault};
 pub use held::{Collected, Held};
 pub use keys::Measurement;

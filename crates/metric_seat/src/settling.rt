@@ -2,10 +2,9 @@
 ghost use Rattle.std.specs.Prelude.{◌≡◌, ◌<◌, ◌^◌, IfNone, IfSome, OnSome, SomeIff};
 ghost use Rattle.metric_seat.specs.Settlements.{IsAsTold, IsPartlyTold, IsTellable, are_distinct, are_spent, has_each, has_seat, sum_above, told_amount, told_count, told_total};
 
+use crate::counted::Counted;
 use crate::tells::Tells;
 use crate::total::Total;
-use metric_book::Book;
-use metric_core::Cell;
 use metric_slot::{is_above, least_sum};
 
 /// Whether some seat is of the recorder of this number.
@@ -37,29 +36,29 @@ pub fn has_each<S: Tells>(seats: &[S], recorders: usize) -> bool
 }
 
 /// The total of an instrument, where its numbers are what the seats of all its recorders were told.
-pub fn total_of_all<B: Book, S: Tells>(
-    cell: &Cell<B>,
+pub fn total_of_all<C: Counted, S: Tells>(
+    counted: &C,
     seats: &[S],
     instrument: u32,
 ) -> Option<Total>
     ensures told { OnSome result (
-        IsAsTold S.numbered (λ seat. S.tells seat instrument) cell.now seats.now) }
+        IsAsTold S.numbered (λ seat. S.tells seat instrument) (C.numbers counted.now) seats.now) }
     ensures total { IfSome result (λ total.
-        total ≡ told_total (λ seat. S.tells seat instrument) cell.now.facts.lo seats.now) }
+        total ≡ told_total (λ seat. S.tells seat instrument) (C.numbers counted.now).lo seats.now) }
     ensures other { IfNone result (
-        IsAsTold S.numbered (λ seat. S.tells seat instrument) cell.now seats.now → ⊥) }
+        IsAsTold S.numbered (λ seat. S.tells seat instrument) (C.numbers counted.now) seats.now → ⊥) }
 {
-    if !are_spent(cell, seats, instrument) {
+    if !are_spent(counted, seats, instrument) {
         return None;
     }
-    let count = cell.count();
+    let count = counted.counted();
     if u128::from(count) != count_of(seats, instrument) {
         return None;
     }
-    let sum = cell.sum();
+    let sum = counted.summed();
     if !is_above(
         sum,
-        least_sum(count, cell.lo()),
+        least_sum(count, counted.least()),
         amount_of(seats, instrument),
     ) {
         return None;
@@ -70,32 +69,34 @@ pub fn total_of_all<B: Book, S: Tells>(
 /// What the seats of some recorders were told of an instrument that has as many recordings of each as it was told of,
 /// where that has 64 bits and its sum 128. Of the other recorders nothing is known, so that nothing is compared with
 /// the instrument's count and sum.
-pub fn total_of_some<B: Book, S: Tells>(
-    cell: &Cell<B>,
+pub fn total_of_some<C: Counted, S: Tells>(
+    counted: &C,
     seats: &[S],
     instrument: u32,
 ) -> Option<Total>
     ensures told { OnSome result (
-        IsPartlyTold S.numbered (λ seat. S.tells seat instrument) cell.now seats.now) }
+        IsPartlyTold S.numbered (λ seat. S.tells seat instrument) (C.numbers counted.now) seats.now) }
     ensures total { IfSome result (λ total.
-        total ≡ told_total (λ seat. S.tells seat instrument) cell.now.facts.lo seats.now) }
+        total ≡ told_total (λ seat. S.tells seat instrument) (C.numbers counted.now).lo seats.now) }
     ensures other { IfNone result (
-        IsPartlyTold S.numbered (λ seat. S.tells seat instrument) cell.now seats.now → ⊥) }
+        IsPartlyTold S.numbered (λ seat. S.tells seat instrument) (C.numbers counted.now) seats.now → ⊥) }
 {
-    if !are_spent(cell, seats, instrument) {
+    if !are_spent(counted, seats, instrument) {
         return None;
     }
     let count = count_of(seats, instrument);
     let amount = amount_of(seats, instrument);
-    total_told(cell.lo(), count, amount)
+    total_told(counted.least(), count, amount)
 }
 
 // Whether the instrument has as many recordings of each recorder as its seat was told of.
-fn are_spent<B: Book, S: Tells>(cell: &Cell<B>, seats: &[S], instrument: u32) -> bool
-    ensures { let spent = cell.now.spent in
+fn are_spent<C: Counted, S: Tells>(counted: &C, seats: &[S], instrument: u32) -> bool
+    ensures { let spent = (C.numbers counted.now).spent in
         result ≡ are_spent S.numbered (λ seat. S.tells seat instrument) spent seats.now }
 {
-    seats.iter().all(|seat| cell.spent(seat.number()) == seat.told_at(instrument).count)
+    seats.iter().all(|seat| {
+        counted.spent_by(seat.number()) == u128::from(seat.told_at(instrument).count)
+    })
 }
 
 // How many recordings the seats were told of.

@@ -7,7 +7,7 @@ use crate::texts::{write_batch, write_numbers};
 use metric_facts::{Facts, is_allowed_set};
 use metric_marked::Marked;
 use metric_plan::Plan;
-use metric_provider::{NoGate, Recorder, Seen, Slot, Told, settle, start};
+use metric_provider::{NoGate, OpenLanes, Recorder, Seen, Slot, Told, settle, start};
 use metric_sdk::certified_plan;
 use std::alloc::{AllocError, Global};
 use std::process::Abort;
@@ -85,12 +85,13 @@ fn write_settled(
     out: &mut String,
     alloc: Global,
     plan: &Plan,
-    slot: &Slot<Marked>,
+    slot: Slot<Marked>,
     recorders: &[Recorder],
 ) -> Result<(), AllocError>
     requires { length plan.now.facts.instruments ≡ 1 }
 {
-    match settle(alloc, plan, std::slice::from_ref(slot), recorders) {
+    let lanes = OpenLanes::one(alloc, slot)?;
+    match settle(alloc, plan, std::slice::from_ref(&lanes), recorders) {
         Ok(totals) => writeln!(out, "{totals:?}"),
         Err(fault) => writeln!(out, "{fault}"),
     }
@@ -112,7 +113,7 @@ fn write_slot<R: Abort>(
     if is_called {
         write_calls(out, rt, alloc, &mut slot, plan.facts(0));
     }
-    write_settled(out, alloc, plan, &slot, recorders).or_fail(rt);
+    write_settled(out, alloc, plan, slot, recorders).or_fail(rt);
 }
 
 // Writes the same for the seats of a plan that are told of nothing.

@@ -1,11 +1,11 @@
 use Rattle.std.proofs.Common.{◌≡◌, ◌≤◌, ◌+◌, vec_capacity, vec_len}
 use Rattle.metric_provider.proofs.finish.put_back.Given as goal
 
-abbrev pub invariant-loop-slot : goal.invariant-loop-slot
-invariant-loop-slot g l = record {
-  count : vec_len l.locked + vec_len l.slots ≡ vec_len l.fn.locked + vec_len l.fn.slots;
-  room : vec_len l.locked + vec_len l.slots ≤ vec_capacity l.locked;
+abbrev pub invariant-loop-lanes : goal.invariant-loop-lanes
+invariant-loop-lanes g l = record {
+  count : vec_len l.locked + vec_len l.unlocked ≡ vec_len l.fn.locked + vec_len l.fn.unlocked;
+  room : vec_len l.locked + vec_len l.unlocked ≤ vec_capacity l.locked;
 }
 
-abbrev pub decreases-loop-slot : goal.decreases-loop-slot
-decreases-loop-slot g l = vec_len l.slots
+abbrev pub decreases-loop-lanes : goal.decreases-loop-lanes
+decreases-loop-lanes g l = vec_len l.unlocked

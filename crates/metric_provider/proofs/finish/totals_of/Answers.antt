@@ -22,15 +22,15 @@ returns-in_ok-slips-in-Ok-clause-totals g c =
           ∙ ap (λ (n : ℕ). slips_of_seats seats n (length c.instruments.result.now)) counted
           ∙ ap (λ (n : ℕ). slips_of_seats seats (length plan.facts.contents.recorders) n) numbered;
       behind = record {
-        cells = c.args.slots.now;
+        lanes = c.args.unlocked.now;
         locked = record { one_each = c.requires; kept = c.in_ok-journals-in-Ok.ensures.kept };
         settled = c.in-Ok.ensures.settled;
         are = c.in_ok-journals-in-Ok.ensures.journals;
       };
       finished = λ each.
-          finishes g.B.Book.kept g.B.Book.KEEPS_ENTRIES plan c.args.slots.now seats c.in-Ok.instruments.items c.in_ok-journals-in-Ok.journals.items
+          finishes g.B.Book.kept g.B.Book.KEEPS_ENTRIES plan c.args.unlocked.now seats c.in-Ok.instruments.items c.in_ok-journals-in-Ok.journals.items
           c.in_ok-slips-in-Ok.slips.items (length c.recorders.result.now) (length c.instruments.result.now) c.requires each counted numbered
-          c.in-Ok.ensures.totals (subst (λ (whole : Bool). AreSettled whole g.B.Book.kept plan.facts.instruments c.args.slots.now seats) each c.in-Ok.ensures.settled)
+          c.in-Ok.ensures.totals (subst (λ (whole : Bool). AreSettled whole g.B.Book.kept plan.facts.instruments c.args.unlocked.now seats) each c.in-Ok.ensures.settled)
           (c.in-Ok.ensures.journals each) c.in_ok-journals-in-Ok.ensures.journals c.in_ok-slips-in-Ok.ensures;
     }
 
@@ -55,4 +55,4 @@ returns-in_err-slips-in-Ok-clause-refused g c =
 
 pub returns-in-Err-clause-refused : goal.returns-in-Err-clause-refused
 returns-in-Err-clause-refused g c =
-    finish_refused (has_each number_of c.args.recorders.now (length c.args.plan.now.facts.contents.recorders)) g.B.Book.kept c.args.plan.now.facts.instruments c.args.slots.now c.args.recorders.now c.in-Err.fault c.in-Err.ensures.refused
+    finish_refused (has_each number_of c.args.recorders.now (length c.args.plan.now.facts.contents.recorders)) g.B.Book.kept c.args.plan.now.facts.instruments c.args.unlocked.now c.args.recorders.now c.in-Err.fault c.in-Err.ensures.refused

@@ -1,11 +1,6 @@
--- that of the instrument under its lock
-use Rattle.std.proofs.Common.{ap, ◌∙◌}
-use Rattle.metric_core.specs.Cells.{CellValue, latest}
+-- what each lane told
+use Rattle.metric_provider.proofs.RollLaws.{is_behind}
 use Rattle.metric_provider.proofs.timed.time_behind.Goals as goal
 
 pub returns : goal.returns
-returns g c = record {
-  cell = c.deref.result.now;
-  kept = c.cell.ensures.kept;
-  is = c.latest.ensures ∙ ap (λ (cell : CellValue g.row.B.Denot). latest cell) c.cell.ensures.cell;
-}
+returns g c = is_behind g.B.Book.stands c.all.result.now c.latest_of.result c.all.ensures.some c.latest_of.ensures

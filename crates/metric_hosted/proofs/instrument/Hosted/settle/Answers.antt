@@ -3,7 +3,7 @@ use Rattle.std.proofs.Common.{◌≡◌, List, Result, Ok, Err, arith, length, r
 use Rattle.std.proofs.lemmas.Grind.{common_steps}
 use Rattle.metric_core.specs.Cells.{CellValue}
 use Rattle.metric_marked.specs.Marks.{MarkedValue}
-use Rattle.metric_seat.specs.Settlements.{IsAsTold}
+use Rattle.metric_seat.specs.Settlements.{IsAsTold, numbers_of}
 use Rattle.metric_seat.specs.declared.fault.FinishFault.{FinishFault}
 use Rattle.metric_seat.specs.declared.fault.FinishFault.TheVariants.{AuditMismatch}
 use Rattle.metric_hosted.specs.Hosts.{HostedValue}
@@ -12,7 +12,7 @@ use Rattle.metric_hosted.specs.declared.settling.SeatTold.{SeatTold}
 use Rattle.metric_hosted.proofs.instrument.Hosted.settle.Goals as goal
 
 mismatch : (c : CellValue MarkedValue) (seats : List SeatTold) (first : Result (Unit {0}) FinishFault) (done : Unit {0}) → first ≡ Ok done
-    → (IsAsTold recorder_of told_of c seats → ⊥) → Settles c seats first (Err AuditMismatch)
+    → (IsAsTold recorder_of told_of (numbers_of c) seats → ⊥) → Settles c seats first (Err AuditMismatch)
 mismatch c seats (Ok own) done is not = (refl, not)
 mismatch c seats (Err fault) done is not = absurd cc
 
@@ -23,4 +23,4 @@ returns-in-None c =
     let long : c.len.result ≡ length c.args.self.now.cell.facts.budgets = grind (arith, common_steps) in
     mismatch c.args.self.now.cell seats (seated (length c.args.self.now.cell.facts.budgets) seats) c.in-Ok.field-0
     (sym (c.seated.ensures ∙ ap (λ n. seated n seats) long) ∙ c.in-Ok.is)
-    (λ told. c.in-None.ensures.other (subst (λ (cell : CellValue MarkedValue). IsAsTold recorder_of told_of cell seats) (sym same) told))
+    (λ told. c.in-None.ensures.other (subst (λ (cell : CellValue MarkedValue). IsAsTold recorder_of told_of (numbers_of cell) seats) (sym same) told))

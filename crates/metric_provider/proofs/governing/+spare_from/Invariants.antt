@@ -1,0 +1,5 @@
+use Rattle.std.proofs.Common.{◌-◌, length}
+use Rattle.metric_provider.proofs.governing.+spare_from.Given as goal
+
+abbrev pub decreases-spare_from : goal.decreases-spare_from
+decreases-spare_from g l = length l.lanes.now - l.at

@@ -1,0 +1,184 @@
+//! The lanes of an instrument.
+ghost use Rattle.std.specs.Prelude.{◌≡◌, ◌<◌, ◌≤◌, ◌+◌, [], ◌∷◌, IfOk, length, vec_capacity, vec_len};
+
+use crossbeam_utils::CachePadded;
+use metric_book::Book;
+use metric_slot::Slot;
+use std::alloc::{AllocError, Global};
+use std::marker::Model;
+use std::sync::Mutex;
+
+/// A lane behind its lock, on cache lines of its own.
+pub(crate) type Locked<B> = CachePadded<Mutex<Slot<B>>>;
+
+/// An instrument behind its locks, one for each lane. A recorder records in one lane, so that each has the recordings
+/// of its own recorders; the facts of each are the instrument's.
+#[derive(Drop)]
+pub(crate) struct Lanes<B: Book> {
+    locks: Vec<Locked<B>>,
+    // Room for them out of their locks.
+    room: Vec<Slot<B>>,
+    // The lane of each recorder; the first where it says none.
+    of: Vec<u8>,
+}
+
+impl<B: Book> Model for Lanes<B> {
+    ghost use Rattle.std.specs.Prelude.{◌<◌, ◌≤◌, ◌≡◌, ℕ, vec_capacity, vec_len};
+
+    // How many lanes there are.
+    ghost Value = { ℕ };
+
+    ghost view = { λ l. vec_len l.locks };
+
+    ghost invariant = { λ l.
+        (0 < vec_len l.locks) × ((vec_len l.room ≡ 0) × (vec_len l.locks ≤ vec_capacity l.room)) };
+}
+
+/// The lanes of an instrument that are out of their locks.
+#[derive(Drop)]
+pub struct OpenLanes<B: Book> {
+    slots: Vec<Slot<B>>,
+    // Room for them behind their locks.
+    room: Vec<Locked<B>>,
+    of: Vec<u8>,
+}
+
+impl<B: Book> Model for OpenLanes<B> {
+    ghost use Rattle.std.specs.Prelude.{◌<◌, ◌≤◌, ◌≡◌, List, vec_capacity, vec_len};
+    ghost use Rattle.metric_core.specs.Cells.{CellValue};
+
+    ghost Value = { List (CellValue B) };
+
+    ghost view = { λ o. o.slots.items };
+
+    ghost invariant = { λ o.
+        (0 < vec_len o.slots) × ((vec_len o.room ≡ 0) × (vec_len o.slots ≤ vec_capacity o.room)) };
+}
+
+impl<B: Book> Lanes<B> {
+    /// An instrument of one lane. Behind the lock is room that nobody writes, so that what the allocator hands out next
+    /// lies on other lines of cache. Fails only where memory is refused.
+    pub(crate) fn one(alloc: Global, slot: Slot<B>) -> Result<Lanes<B>, AllocError>
+        ensures { IfOk result (λ lanes. lanes ≡ 1) }
+    {
+        let mut locks = Vec::with_capacity(alloc, 2)?;
+        let room = Vec::with_capacity(alloc, 1)?;
+        locks.push_reserved(CachePadded::new(Mutex::new(slot)));
+        Ok(Lanes {
+            locks,
+            room,
+            of: Vec::new(alloc),
+        })
+    }
+
+    /// The place of the lane of a recorder.
+    #[inline(always)]
+    pub(crate) fn place_of(&self, recorder: u32) -> usize
+        ensures { result < self.now }
+    {
+        let place = usize::from(self.of.get(recorder as usize).copied().unwrap_or(0));
+        if place < self.locks.len() { place } else { 0 }
+    }
+
+    /// The lane of a recorder.
+    #[inline(always)]
+    pub(crate) fn lane_of(&self, recorder: u32) -> &Locked<B> {
+        &self.locks[self.place_of(recorder)]
+    }
+
+    /// All lanes, in the order in which their locks are taken.
+    pub(crate) fn all(&self) -> &[Locked<B>]
+        ensures count { length result.now ≡ self.now }
+        ensures some { 0 < length result.now }
+    {
+        self.locks.as_slice()
+    }
+
+    /// The first lane, which is the only one.
+    pub(crate) fn first(&self) -> &Locked<B> {
+        &self.locks[0]
+    }
+
+    /// Takes the lanes out of their locks. Takes no memory.
+    pub(crate) fn unlock(self) -> OpenLanes<B>
+        ensures { length result ≡ self }
+    {
+        let Lanes {
+            mut locks,
+            mut room,
+            of,
+        } = self;
+        unlock_each(&mut locks, &mut room);
+        room.as_mut_slice().reverse();
+        OpenLanes {
+            slots: room,
+            room: locks,
+            of,
+        }
+    }
+}
+
+impl<B: Book> OpenLanes<B> {
+    /// A lane that has all recordings of its instrument. Fails only where memory is refused.
+    pub fn one(alloc: Global, slot: Slot<B>) -> Result<OpenLanes<B>, AllocError>
+        ensures { IfOk result (λ lanes. lanes ≡ slot ∷ []) }
+    {
+        let mut slots = Vec::with_capacity(alloc, 1)?;
+        slots.push_reserved(slot);
+        Ok(OpenLanes {
+            slots,
+            room: Vec::with_capacity(alloc, 1)?,
+            of: Vec::new(alloc),
+        })
+    }
+
+    /// What each lane has, in order.
+    pub(crate) fn slots(&self) -> &[Slot<B>]
+        ensures slots { result.now ≡ self.now }
+        ensures some { 0 < length result.now }
+    {
+        self.slots.as_slice()
+    }
+
+    /// Puts the lanes behind their locks again. Takes no memory.
+    pub(crate) fn lock(self) -> Lanes<B>
+        ensures { result ≡ length self }
+    {
+        let OpenLanes {
+            mut slots,
+            mut room,
+            of,
+        } = self;
+        slots.as_mut_slice().reverse();
+        lock_each(&mut slots, &mut room);
+        Lanes {
+            locks: room,
+            room: slots,
+            of,
+        }
+    }
+}
+
+// Takes slots out of their locks, the last one first.
+fn unlock_each<B: Book>(locked: &mut Vec<Locked<B>>, slots: &mut Vec<Slot<B>>)
+    requires room { vec_len slots.old + vec_len locked.old ≤ vec_capacity slots.old }
+    ensures slots { vec_len slots.new ≡ vec_len slots.old + vec_len locked.old }
+    ensures room { vec_capacity locked.new ≡ vec_capacity locked.old }
+    ensures none { vec_len locked.new ≡ 0 }
+{
+    while let Some(slot) = locked.pop() {
+        slots.push_reserved(slot.into_inner().into_inner());
+    }
+}
+
+// Puts slots behind locks, the last one first.
+fn lock_each<B: Book>(slots: &mut Vec<Slot<B>>, locked: &mut Vec<Locked<B>>)
+    requires room { vec_len locked.old + vec_len slots.old ≤ vec_capacity locked.old }
+    ensures locked { vec_len locked.new ≡ vec_len locked.old + vec_len slots.old }
+    ensures room { vec_capacity slots.new ≡ vec_capacity slots.old }
+    ensures none { vec_len slots.new ≡ 0 }
+{
+    while let Some(slot) = slots.pop() {
+        locked.push_reserved(CachePadded::new(Mutex::new(slot)));
+    }
+}
