@@ -3,7 +3,7 @@ use crate::inputs::Cycle;
 use anyhow::Context;
 use metric_book::Book;
 use metric_sdk::{
-    Collector, Measurement, NoGate, Plan, Provider, Recorder, Refusal, Totals, start,
+    Collector, Measurement, NoGate, Plan, Provider, Recorder, Refusal, Totals, start_with_lanes,
 };
 use std::alloc::Global;
 use std::sync::Wait;
@@ -48,10 +48,20 @@ pub(crate) fn started<R: Wait, B: Book>(
     alloc: Global,
     plan: Plan,
 ) -> anyhow::Result<Seats<B>> {
+    started_in_lanes(rt, alloc, plan, 1)
+}
+
+/// The same, where an instrument has so many lanes at most.
+pub(crate) fn started_in_lanes<R: Wait, B: Book>(
+    rt: &R,
+    alloc: Global,
+    plan: Plan,
+    lanes: u32,
+) -> anyhow::Result<Seats<B>> {
     if !plan.is_certified() {
         anyhow::bail!("a plan that is not certified");
     }
-    match start(rt, alloc, plan, 0, 0, NoGate) {
+    match start_with_lanes(rt, alloc, plan, 0, 0, NoGate, lanes) {
         Ok((provider, recorders, collectors)) => Ok(Seats {
             provider,
             recorders,

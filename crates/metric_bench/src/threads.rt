@@ -3,7 +3,7 @@ use crate::bench::{Bench, Row, Unit, each};
 use crate::cells::recordings;
 use crate::floors::{Floor, look_up};
 use crate::inputs::{BUDGET, Shape, WIDE_KEYS, plan_of, values_for};
-use crate::seats::{Keyed, Rounds, Seats, record_by_last, started};
+use crate::seats::{Keyed, Rounds, Seats, record_by_last, started_in_lanes};
 use crate::tasks::{Caller, Collections, Runner, Task, times_together};
 use crate::watch::Spread;
 use crate::words::Words;
@@ -35,12 +35,14 @@ const MORE: u32 = 4;
 // What a bare lock costs.
 const LOCK: &str = "a lock with an addition, as many threads";
 
-// What threads record: one instrument, an instrument each, each recording by itself or lists under one lock; or one
-// instrument until all have been collected.
+// What threads record: one instrument of one lane, one with a lane for each, or an instrument each, each recording by
+// itself or lists under one lock; or one instrument until all have been collected.
 #[derive(Clone, Copy)]
 enum Sharing {
     One,
     OneByLists,
+    Lanes,
+    LanesByLists,
     Each,
     EachByLists,
     Beside,
@@ -50,6 +52,8 @@ enum Sharing {
 const SHARINGS: &[Sharing] = &[
     Sharing::One,
     Sharing::OneByLists,
+    Sharing::Lanes,
+    Sharing::LanesByLists,
     Sharing::Each,
     Sharing::EachByLists,
 ];
@@ -60,6 +64,14 @@ impl Sharing {
         match self {
             Sharing::Each | Sharing::EachByLists => thread,
             _ => 0,
+        }
+    }
+
+    // How many lanes an instrument of so many recorders has.
+    fn lanes(self, recorders: u32) -> u32 {
+        match self {
+            Sharing::Lanes | Sharing::LanesByLists => recorders,
+            _ => 1,
         }
     }
 
@@ -74,6 +86,14 @@ impl Sharing {
             Sharing::OneByLists => (
                 "one instrument, lists of 16",
                 "one instrument, lists, throughput",
+            ),
+            Sharing::Lanes => (
+                "one instrument, a lane each",
+                "one instrument, a lane each, throughput",
+            ),
+            Sharing::LanesByLists => (
+                "one instrument, a lane each, lists of 16",
+                "one instrument, a lane each, lists, throughput",
             ),
             _ => ("one instrument", "one instrument, throughput"),
         }
@@ -101,7 +121,9 @@ impl Sharing {
         };
         match self {
             Sharing::Beside => Task::RecordUntil(caller),
-            Sharing::OneByLists | Sharing::EachByLists => Task::RecordLists(caller),
+            Sharing::OneByLists | Sharing::LanesByLists | Sharing::EachByLists => {
+                Task::RecordLists(caller)
+            }
             _ => Task::Record(caller),
         }
     }
@@ -109,7 +131,7 @@ impl Sharing {
     // How many recordings each thread makes, where so many are asked for.
     fn made(self, events: u32) -> u32 {
         match self {
-            Sharing::OneByLists | Sharing::EachByLists => {
+            Sharing::OneByLists | Sharing::LanesByLists | Sharing::EachByLists => {
                 (events / LISTED).max(1).saturating_mul(LISTED)
             }
             _ => events,
@@ -248,7 +270,7 @@ fn seats_measured<R: Threads + Wait + Clock + Sync>(
     sharing: Sharing,
     threads: u32,
 ) -> anyhow::Result<Spread> {
-    let mut seats = seats_of(rt, alloc, threads.saturating_add(1))?;
+    let mut seats = seats_of(rt, alloc, threads.saturating_add(1), sharing)?;
     let rounds = Rounds {
         instrument: 0,
         series: SERIES,
@@ -268,7 +290,12 @@ fn seats_measured<R: Threads + Wait + Clock + Sync>(
 }
 
 // A provider with so many recorders and instruments.
-fn seats_of<R: Wait>(rt: &R, alloc: Global, count: u32) -> anyhow::Result<Seats<Marked>> {
+fn seats_of<R: Wait>(
+    rt: &R,
+    alloc: Global,
+    count: u32,
+    sharing: Sharing,
+) -> anyhow::Result<Seats<Marked>> {
     let shape = Shape {
         instruments: count,
         kind: 0,
@@ -277,7 +304,8 @@ fn seats_of<R: Wait>(rt: &R, alloc: Global, count: u32) -> anyhow::Result<Seats<
         recorders: count,
         budget: BUDGET,
     };
-    started(rt, alloc, plan_of(alloc, &shape, 1)?)
+    let plan = plan_of(alloc, &shape, 1)?;
+    started_in_lanes(rt, alloc, plan, sharing.lanes(count))
 }
 
 // The last of the recorders, and a collector where all are collected.

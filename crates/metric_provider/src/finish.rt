@@ -163,11 +163,11 @@ impl<B: Book, G: Gate> Provider<B, G> {
         ensures provider { IfErr result (λ refused. refused.0 ≡ self) }
         ensures recorders { IfErr result (λ refused. refused.1.items ≡ recorders.items) }
     {
-        let (plan, run, gate, mut slots) = self.into_slots();
+        let (plan, run, gate, mut slots, most) = self.into_slots();
         match settle_seated(alloc, &plan, run, &mut slots, recorders.as_slice(), all) {
             Ok(partly) => Ok((partly, plan, gate)),
             Err(fault) => {
-                let provider = Provider::from_slots(plan, run, gate, slots);
+                let provider = Provider::from_slots(plan, run, gate, slots, most);
                 Err((provider, recorders, fault))
             }
         }

@@ -9,6 +9,7 @@ ghost use Rattle.metric_seat.specs.KeyRecordings.{IsRecordable, IsRefusedUnder, 
 ghost use Rattle.metric_seat.specs.Recordings.{RefusesRecording};
 ghost use Rattle.metric_slot.specs.Tellings.{told_more};
 
+use crate::collecting::{Question, collect_lanes};
 use crate::gate::Gate;
 use crate::governing::{Asked, close_from, grant_from};
 use crate::lanes::Lanes;
@@ -121,11 +122,12 @@ impl<R: Wait, B: Book, G: Gate> Collected for Inside<'_, R, B, G> {
         let Some(lanes) = self.lanes else {
             return Err(Refusal::Stranger);
         };
-        let slot: &Mutex<Slot<B>> = lanes.first();
-        let mut guard = slot.lock(self.rt);
-        let answer = guard.collect(alloc, facts, start, seen, reader, now);
-        self.gate.inside(self.rt, self.instrument);
-        answer
+        let question = Question {
+            alloc,
+            facts,
+            asked: metric_lanes::Asked { start, reader, now },
+        };
+        collect_lanes(self.rt, self.gate, lanes.all(), &question, seen)
     }
 }
 

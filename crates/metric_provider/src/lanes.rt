@@ -1,5 +1,5 @@
 //! The lanes of an instrument.
-ghost use Rattle.std.specs.Prelude.{◌≡◌, ◌<◌, ◌≤◌, ◌+◌, [], ◌∷◌, IfOk, length, vec_capacity, vec_len};
+ghost use Rattle.std.specs.Prelude.{◌≡◌, ◌<◌, ◌≤◌, ◌+◌, [], ◌∷◌, IfOk, OnOk, length, vec_capacity, vec_len};
 
 use crossbeam_utils::CachePadded;
 use metric_book::Book;
@@ -94,9 +94,20 @@ impl<B: Book> Lanes<B> {
         self.locks.as_slice()
     }
 
-    /// The first lane, which is the only one.
-    pub(crate) fn first(&self) -> &Locked<B> {
-        &self.locks[0]
+    /// One lane more. Fails only where memory is refused.
+    pub(crate) fn add(&mut self, slot: Slot<B>) -> Result<(), AllocError>
+        ensures { OnOk result (self.new ≡ self.old + 1) }
+    {
+        self.room.reserve(self.locks.len().saturating_add(1))?;
+        self.locks.push(CachePadded::new(Mutex::new(slot)))?;
+        Ok(())
+    }
+
+    /// Shares the lanes out: the lane of each recorder.
+    pub(crate) fn share(&mut self, of: Vec<u8>)
+        ensures { self.new ≡ self.old }
+    {
+        self.of = of;
     }
 
     /// Takes the lanes out of their locks. Takes no memory.

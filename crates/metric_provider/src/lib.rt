@@ -6,6 +6,7 @@
 #![tactic(auto)]
 
 mod bounds;
+mod collecting;
 mod collector;
 mod fault;
 mod finish;
@@ -19,6 +20,7 @@ mod recorder;
 mod rolling;
 mod rooms;
 mod settling;
+mod sharing;
 mod starting;
 mod timed;
 mod together;
@@ -35,5 +37,5 @@ pub use metric_slot::{Seen, Slot, Told};
 pub use provider::Provider;
 pub use recorder::Recorder;
 pub use settling::settle;
-pub use starting::start;
+pub use starting::{start, start_with_lanes};
 pub use totals::{Finished, Partly, Rolled, Totals};

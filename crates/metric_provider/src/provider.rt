@@ -27,6 +27,8 @@ pub struct Provider<B: Book, G: Gate> {
     run: u64,
     gate: G,
     slots: Vec<Lanes<B>>,
+    // How many lanes an instrument may have.
+    most: u32,
 }
 
 impl<B: Book, G: Gate> Drop for Provider<B, G> {
@@ -37,6 +39,7 @@ impl<B: Book, G: Gate> Drop for Provider<B, G> {
             run: _,
             gate: _gate,
             slots: _slots,
+            most: _,
         } = self;
     }
 }
@@ -55,7 +58,13 @@ impl<B: Book, G: Gate> Model for Provider<B, G> {
 
 impl<B: Book, G: Gate> Provider<B, G> {
     // The provider of a certified plan with the slots of its instruments.
-    pub(crate) fn from_slots(plan: Plan, run: u64, gate: G, slots: Vec<Lanes<B>>) -> Provider<B, G>
+    pub(crate) fn from_slots(
+        plan: Plan,
+        run: u64,
+        gate: G,
+        slots: Vec<Lanes<B>>,
+        most: u32,
+    ) -> Provider<B, G>
         requires { IsProvider plan (vec_len slots) }
         ensures { result ≡ provider_of plan run }
     {
@@ -64,11 +73,12 @@ impl<B: Book, G: Gate> Provider<B, G> {
             run,
             gate,
             slots,
+            most,
         }
     }
 
-    // The plan, the run, the gate and the slots.
-    pub(crate) fn into_slots(self) -> (Plan, u64, G, Vec<Lanes<B>>)
+    // The plan, the run, the gate, the slots, and how many lanes an instrument may have.
+    pub(crate) fn into_slots(self) -> (Plan, u64, G, Vec<Lanes<B>>, u32)
         ensures value { provider_of result.0 result.1 ≡ self }
         ensures kept { IsProvider result.0 (vec_len result.3) }
     {
@@ -77,8 +87,9 @@ impl<B: Book, G: Gate> Provider<B, G> {
             run,
             gate,
             slots,
+            most,
         } = self;
-        (plan, run, gate, slots)
+        (plan, run, gate, slots, most)
     }
 
     /// The plan.
@@ -100,6 +111,11 @@ impl<B: Book, G: Gate> Provider<B, G> {
         ensures { length result.now ≡ length self.now.plan.facts.instruments }
     {
         self.slots.as_slice()
+    }
+
+    // How many lanes an instrument may have.
+    pub(crate) fn most(&self) -> u32 {
+        self.most
     }
 
     // The number of the run.

@@ -13,7 +13,7 @@ use crate::gate::Gate;
 use crate::lanes::Lanes;
 use crate::provider::Provider;
 use crate::recorder::Recorder;
-use crate::starting::new_parts;
+use crate::starting::{Beginning, new_parts};
 use crate::timed::latest_of;
 use crate::totals::{Rolled, Totals};
 use metric_book::Book;
@@ -67,7 +67,11 @@ impl<B: Book, G: Gate> Provider<B, G> {
         ensures provider { IfErr result (λ refused. refused.0 ≡ self) }
         ensures recorders { IfErr result (λ refused. refused.1.items ≡ recorders.items) }
     {
-        let next = NextRun { start, run };
+        let next = Beginning {
+            start,
+            run,
+            most: self.most(),
+        };
         match self.may_begin(rt, next) {
             Ok(()) => match self.rolled(alloc, recorders, next) {
                 Ok(rolled) => Ok(rolled),
@@ -80,7 +84,7 @@ impl<B: Book, G: Gate> Provider<B, G> {
     }
 
     // Whether the next run has another number than this one, and starts no earlier than its last batches.
-    fn may_begin<R: Wait>(&self, rt: &R, next: NextRun) -> Result<(), RollFault>
+    fn may_begin<R: Wait>(&self, rt: &R, next: Beginning) -> Result<(), RollFault>
         ensures other_run { OnOk result ((next.run == self.now.run) ≡ false) }
         ensures in_time { OnOk result (
             IsInTime B.stands (length self.now.plan.facts.instruments) next.start) }
@@ -110,7 +114,7 @@ impl<B: Book, G: Gate> Provider<B, G> {
         self,
         alloc: Global,
         recorders: Vec<Recorder>,
-        next: NextRun,
+        next: Beginning,
     ) -> Result<Rolled<B, G>, (Provider<B, G>, Vec<Recorder>, FinishFault)>
         ensures totals { IfOk result (λ rolled. let end = rolled.totals in
             Finishes B.KEEPS_ENTRIES self.plan recorders.items
@@ -129,7 +133,7 @@ impl<B: Book, G: Gate> Provider<B, G> {
         ensures provider { IfErr result (λ refused. refused.0 ≡ self) }
         ensures recorders { IfErr result (λ refused. refused.1.items ≡ recorders.items) }
     {
-        let (plan, ended, gate, mut slots) = self.into_slots();
+        let (plan, ended, gate, mut slots, most) = self.into_slots();
         match seated_parts(alloc, &plan, ended, &mut slots, recorders.as_slice(), next) {
             Ok(parts) => {
                 let RolledParts {
@@ -138,7 +142,7 @@ impl<B: Book, G: Gate> Provider<B, G> {
                     recorders,
                     collectors,
                 } = parts;
-                let provider = Provider::from_slots(plan, next.run, gate, slots);
+                let provider = Provider::from_slots(plan, next.run, gate, slots, most);
                 Ok(Rolled {
                     provider,
                     recorders,
@@ -147,18 +151,11 @@ impl<B: Book, G: Gate> Provider<B, G> {
                 })
             }
             Err(fault) => {
-                let provider = Provider::from_slots(plan, ended, gate, slots);
+                let provider = Provider::from_slots(plan, ended, gate, slots, most);
                 Err((provider, recorders, fault))
             }
         }
     }
-}
-
-// When the next run starts, in nanoseconds, and its number.
-#[derive(Clone, Copy)]
-struct NextRun {
-    start: u64,
-    run: u64,
 }
 
 // What a provider comes to, and what the next one is made of.
@@ -170,7 +167,7 @@ struct RolledParts<B: Book> {
 }
 
 // Whether the next run has the number of this one.
-fn is_same_run(next: NextRun, run: u64) -> bool
+fn is_same_run(next: Beginning, run: u64) -> bool
     ensures { result ≡ (next.run == run) }
 {
     next.run == run
@@ -184,7 +181,7 @@ fn seated_parts<B: Book>(
     run: u64,
     locked: &mut Vec<Lanes<B>>,
     recorders: &[Recorder],
-    next: NextRun,
+    next: Beginning,
 ) -> Result<RolledParts<B>, FinishFault>
     requires slots { vec_len locked.old ≡ length plan.now.facts.instruments }
     requires certified { IsTrue plan.now.is_certified }
@@ -207,7 +204,7 @@ fn seated_parts<B: Book>(
 {
     match seated_by(plan, run, recorders, true) {
         Ok(()) => {
-            let (slots, seats, collectors) = new_parts(alloc, plan, next.start, next.run)?;
+            let (slots, seats, collectors) = new_parts(alloc, plan, next)?;
             let totals = settle_locked(alloc, plan, locked, recorders)?;
             Ok(RolledParts {
                 totals,

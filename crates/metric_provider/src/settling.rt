@@ -14,7 +14,7 @@ use metric_book::{Book, Slip};
 use metric_facts::Facts;
 use metric_history::Entry;
 use metric_plan::Plan;
-use metric_seat::{Counted, FinishFault, Total, has_each, total_of_all, total_of_some};
+use metric_seat::{FinishFault, Tally, Total, has_each, total_of_all, total_of_some};
 use metric_slot::Slot;
 use std::alloc::Global;
 
@@ -113,7 +113,7 @@ fn are_of<B: Book>(lanes: &[Slot<B>], facts: &Facts) -> bool
 }
 
 // What they were told, where the instrument's numbers are by that.
-fn total_by<C: Counted>(
+fn total_by<C: Tally>(
     whole: bool,
     counted: &C,
     recorders: &[Recorder],

@@ -1,5 +1,5 @@
 //! A provider with its seats.
-ghost use Rattle.std.specs.Prelude.{◌≡◌, ◌≤◌, ◌+◌, IsTrue, length, map, vec_capacity, vec_len, IfOk, IfErr, OnOk};
+ghost use Rattle.std.specs.Prelude.{◌≡◌, ◌<◌, ◌≤◌, ◌+◌, IsTrue, length, map, vec_capacity, vec_len, IfOk, IfErr, OnOk};
 ghost use Rattle.std.specs.List.{range_with_len};
 ghost use Rattle.metric_provider.specs.NewSlots.{AreNewSlots};
 ghost use Rattle.metric_seat.specs.Seats.{new_collector, new_recorder, provider_of};
@@ -9,6 +9,7 @@ use crate::gate::Gate;
 use crate::lanes::Lanes;
 use crate::provider::Provider;
 use crate::recorder::Recorder;
+use crate::sharing::{lane_of_each, lanes_for};
 use metric_book::Book;
 use metric_plan::Plan;
 use metric_slot::Slot;
@@ -39,9 +40,74 @@ pub fn start<R: Wait, B: Book, G: Gate>(
         (range_with_len 0 (length plan.config.readers))) }
     ensures back { IfErr result (λ refused. (refused.0 ≡ plan) × (refused.1 ≡ gate)) }
 {
-    match new_parts(alloc, &plan, start, run) {
+    let beginning = Beginning {
+        start,
+        run,
+        most: 1,
+    };
+    begin(alloc, plan, beginning, gate)
+}
+
+/// The same, where an instrument may stand behind several locks, its lanes, so many at most: recorders of different
+/// lanes do not wait for each other. A recorder always records in one lane; a collection, a grant and the end of an
+/// instrument take the locks of all its lanes, so each is one step. An instrument has as many lanes as recorders that
+/// can record on it, 64 at most; one where the book keeps entries, and where a stream reports last values. Each lane
+/// has tables of its own. The next run has as many.
+pub fn start_with_lanes<R: Wait, B: Book, G: Gate>(
+    _rt: &R,
+    alloc: Global,
+    plan: Plan,
+    start: u64,
+    run: u64,
+    gate: G,
+    lanes: u32,
+) -> Result<(Provider<B, G>, Vec<Recorder>, Vec<Collector>), (Plan, G, AllocError)>
+    requires { IsTrue plan.is_certified }
+    ensures provider { IfOk result (λ made. made.0 ≡ provider_of plan run) }
+    ensures recorders { IfOk result (λ made. made.1.items
+        ≡ map (new_recorder B.KEEPS_ENTRIES run (length plan.facts.instruments))
+        (range_with_len 0 (length plan.facts.contents.recorders))) }
+    ensures collectors { IfOk result (λ made. made.2.items
+        ≡ map (new_collector run start (length plan.facts.instruments))
+        (range_with_len 0 (length plan.config.readers))) }
+    ensures back { IfErr result (λ refused. (refused.0 ≡ plan) × (refused.1 ≡ gate)) }
+{
+    let beginning = Beginning {
+        start,
+        run,
+        most: lanes,
+    };
+    begin(alloc, plan, beginning, gate)
+}
+
+/// When a run starts, in nanoseconds, its number, and how many lanes an instrument may have.
+#[derive(Clone, Copy)]
+pub(crate) struct Beginning {
+    pub(crate) start: u64,
+    pub(crate) run: u64,
+    pub(crate) most: u32,
+}
+
+fn begin<B: Book, G: Gate>(
+    alloc: Global,
+    plan: Plan,
+    beginning: Beginning,
+    gate: G,
+) -> Result<(Provider<B, G>, Vec<Recorder>, Vec<Collector>), (Plan, G, AllocError)>
+    requires { IsTrue plan.is_certified }
+    ensures provider { IfOk result (λ made. made.0 ≡ provider_of plan beginning.run) }
+    ensures recorders { IfOk result (λ made. made.1.items
+        ≡ map (new_recorder B.KEEPS_ENTRIES beginning.run (length plan.facts.instruments))
+        (range_with_len 0 (length plan.facts.contents.recorders))) }
+    ensures collectors { IfOk result (λ made. made.2.items
+        ≡ map (new_collector beginning.run beginning.start (length plan.facts.instruments))
+        (range_with_len 0 (length plan.config.readers))) }
+    ensures back { IfErr result (λ refused. (refused.0 ≡ plan) × (refused.1 ≡ gate)) }
+{
+    match new_parts(alloc, &plan, beginning) {
         Ok((slots, recorders, collectors)) => {
-            let provider = Provider::from_slots(plan, run, gate, slots);
+            let (run, most) = (beginning.run, beginning.most);
+            let provider = Provider::from_slots(plan, run, gate, slots, most);
             Ok((provider, recorders, collectors))
         }
         Err(error) => Err((plan, gate, error)),
@@ -52,20 +118,21 @@ pub fn start<R: Wait, B: Book, G: Gate>(
 pub(crate) fn new_parts<B: Book>(
     alloc: Global,
     plan: &Plan,
-    start: u64,
-    run: u64,
+    beginning: Beginning,
 ) -> Result<(Vec<Lanes<B>>, Vec<Recorder>, Vec<Collector>), AllocError>
     requires { IsTrue plan.now.is_certified }
     ensures slots { IfOk result (λ made. vec_len made.0 ≡ length plan.now.facts.instruments) }
     ensures recorders { IfOk result (λ made. made.1.items
-        ≡ map (new_recorder B.KEEPS_ENTRIES run (length plan.now.facts.instruments))
+        ≡ map (new_recorder B.KEEPS_ENTRIES beginning.run (length plan.now.facts.instruments))
         (range_with_len 0 (length plan.now.facts.contents.recorders))) }
     ensures collectors { IfOk result (λ made. made.2.items
-        ≡ map (new_collector run start (length plan.now.facts.instruments))
+        ≡ map (new_collector beginning.run beginning.start (length plan.now.facts.instruments))
         (range_with_len 0 (length plan.now.config.readers))) }
 {
+    let Beginning { start, run, .. } = beginning;
     let slots = new_slots(alloc, plan, start, seed_of(start, run))?;
-    let slots = locked(alloc, slots)?;
+    let mut slots = locked(alloc, slots)?;
+    add_lanes(alloc, plan, beginning, &mut slots)?;
     let recorders = new_recorders(alloc, plan, run, B::KEEPS_ENTRIES)?;
     let collectors = new_collectors(alloc, plan, run, start)?;
     Ok((slots, recorders, collectors))
@@ -121,6 +188,52 @@ fn lock_each<B: Book>(
     while let Some(slot) = slots.pop() {
         locked.push_reserved(Lanes::one(alloc, slot)?);
     }
+    Ok(())
+}
+
+// Adds to each instrument's first lane the others, where it has some.
+fn add_lanes<B: Book>(
+    alloc: Global,
+    plan: &Plan,
+    beginning: Beginning,
+    all: &mut Vec<Lanes<B>>,
+) -> Result<(), AllocError>
+    requires certified { IsTrue plan.now.is_certified }
+    requires slots { vec_len all.old ≡ length plan.now.facts.instruments }
+    ensures { vec_len all.new ≡ vec_len all.old }
+{
+    for instrument in 0..instruments_of(plan) {
+        let lanes = &mut all[instrument as usize];
+        add_others(alloc, plan, beginning, instrument, lanes)?;
+    }
+    Ok(())
+}
+
+// How many instruments a plan has.
+fn instruments_of(plan: &Plan) -> u32
+    ensures { result ≡ length plan.now.facts.instruments }
+{
+    plan.catalogue().instruments().len() as u32
+}
+
+// Adds the other lanes of an instrument to its first one.
+fn add_others<B: Book>(
+    alloc: Global,
+    plan: &Plan,
+    beginning: Beginning,
+    instrument: u32,
+    lanes: &mut Lanes<B>,
+) -> Result<(), AllocError>
+    requires certified { IsTrue plan.now.is_certified }
+    requires known { instrument < length plan.now.facts.instruments }
+{
+    let facts = plan.facts(instrument);
+    let count = lanes_for(facts, B::KEEPS_ENTRIES, beginning.most);
+    let seed = seed_of(beginning.start, beginning.run);
+    for _other in 1..count {
+        lanes.add(Slot::with_seed(alloc, plan, instrument, beginning.start, seed)?)?;
+    }
+    lanes.share(lane_of_each(alloc, facts, count)?);
     Ok(())
 }
 

@@ -4,7 +4,7 @@ ghost use Rattle.metric_provider.specs.Lanes.{count_over, spent_over, total_over
 
 use metric_book::Book;
 use metric_facts::Facts;
-use metric_seat::Counted;
+use metric_seat::Tally;
 use metric_slot::Slot;
 
 /// The lanes of an instrument with these facts. A u64 counts their recordings.
@@ -15,7 +15,7 @@ pub(crate) struct Together<'a, B: Book> {
     ghost few: { count_over lanes.now < 2 ^ 64 },
 }
 
-impl<B: Book> Counted for Together<'_, B> {
+impl<B: Book> Tally for Together<'_, B> {
     ghost use Rattle.metric_provider.specs.Lanes.{numbers_over};
 
     ghost numbers = { λ t. numbers_over t.facts.now.lo t.lanes.now };

@@ -5,7 +5,9 @@
 //!    views there are. [`open`] reads them, makes a certificate that no limit and no number can overflow, checks it,
 //!    and starts: a [`MeterProvider`] with the seat of each recorder and each reader, in the order of the texts, or the
 //!    first [`SetupFault`]. [`open_certified`] takes a certificate that somebody else made, whom it does not trust.
-//!    [`now`] gives the moment of the start, the one [`Runs`] of a process the number of the run.
+//!    [`open_with_lanes`] gives instruments several locks, so that threads which record on one do not wait for each
+//!    other, and [`open_audited`] keeps each recording. [`now`] gives the moment of the start, the one [`Runs`] of a
+//!    process the number of the run.
 //! 2. **Names.** [`counter`], [`up_down_counter`], [`histogram`] and [`gauge`] find an instrument of the plan by the
 //!    names of its meter and its own, and compare its kind and its keys with what the service is going to record: a
 //!    [`Handle`] of that kind ([`Counter`] and so on), or a [`HandleFault`] before anything was recorded.
@@ -217,6 +219,7 @@ pub use metric_handles::ListFault;
 pub use metric_handles::Need;
 pub use metric_handles::Recorded;
 pub use metric_handles::Records;
+pub use metric_handles::Refused;
 pub use metric_handles::Replaced;
 pub use metric_handles::Seat;
 pub use metric_handles::TimeUnit;
@@ -286,6 +289,7 @@ pub use metric_provider::Total;
 pub use metric_provider::Totals;
 pub use metric_provider::batches_are_bounded;
 pub use metric_provider::start;
+pub use metric_provider::start_with_lanes;
 pub use metric_provider::windows_meet;
 pub use metric_resource::Resource;
 pub use metric_resource::ResourceFault;
@@ -305,6 +309,7 @@ pub use metric_views::ViewFault;
 pub use opening::open;
 pub use opening::open_audited;
 pub use opening::open_certified;
+pub use opening::open_with_lanes;
 pub use provider::AuditedProvider;
 pub use provider::MeterProvider;
 pub use rolled::RollLeft;

@@ -10,7 +10,7 @@ use crate::runs::Runs;
 use metric_audit::Audited;
 use metric_book::Book;
 use metric_plan::Plan;
-use metric_provider::{Collector, NoGate, Provider, Recorder, start};
+use metric_provider::{Collector, NoGate, Provider, Recorder, start_with_lanes};
 use metric_setup::{SetupFault, certified_plan, vouched_plan};
 use std::alloc::Global;
 use std::sync::Wait;
@@ -45,7 +45,39 @@ pub fn open<R: Wait>(
         IsFirstFault fault catalogue_text.now config_text.now) }
 {
     let plan = certified_plan(alloc, catalogue_text, config_text)?;
-    started(rt, alloc, plan, now, runs)
+    started(rt, alloc, plan, 1, now, runs)
+}
+
+/// [`open`] where an instrument may stand behind several locks, its lanes, so many at most: recorders of different
+/// lanes do not wait for each other, and each lane has tables of its own
+/// ([`start_with_lanes`](crate::start_with_lanes)).
+///
+/// # Errors
+///
+/// Those of [`open`].
+pub fn open_with_lanes<R: Wait>(
+    rt: &R,
+    alloc: Global,
+    catalogue_text: &str,
+    config_text: &str,
+    lanes: u32,
+    now: u64,
+    runs: &mut Runs,
+) -> Result<(MeterProvider, Vec<Recorder>, Vec<Collector>), SetupFault>
+    ensures plan { IfOk result (λ opened.
+        IsCertifiedPlan catalogue_text.now config_text.now opened.0.plan) }
+    ensures run { IfOk result (λ opened. opened.0.run ≡ next_count runs.old) }
+    ensures given { OnOk result (runs.new ≡ next_count runs.old) }
+    ensures not_given { OnErr result (runs.new ≡ runs.old) }
+    ensures recorders { IfOk result (λ opened.
+        opened.1.items ≡ new_recorders false opened.0.run opened.0.plan) }
+    ensures collectors { IfOk result (λ opened.
+        opened.2.items ≡ new_collectors opened.0.run now opened.0.plan) }
+    ensures first { IfErr result (λ fault.
+        IsFirstFault fault catalogue_text.now config_text.now) }
+{
+    let plan = certified_plan(alloc, catalogue_text, config_text)?;
+    started(rt, alloc, plan, lanes, now, runs)
 }
 
 /// [`open`] with a certificate that somebody else made, whom nobody trusts: it is read and checked, and none is made.
@@ -75,7 +107,7 @@ pub fn open_certified<R: Wait>(
         IsFirstClaimFault fault catalogue_text.now config_text.now certificate_text.now) }
 {
     let plan = vouched_plan(alloc, catalogue_text, config_text, certificate_text)?;
-    started(rt, alloc, plan, now, runs)
+    started(rt, alloc, plan, 1, now, runs)
 }
 
 /// [`open`] over books that keep each recording beside their running tables, so that the run can be audited
@@ -105,7 +137,7 @@ pub fn open_audited<R: Wait>(
         IsFirstFault fault catalogue_text.now config_text.now) }
 {
     let plan = certified_plan(alloc, catalogue_text, config_text)?;
-    started::<R, Audited>(rt, alloc, plan, now, runs)
+    started::<R, Audited>(rt, alloc, plan, 1, now, runs)
 }
 
 // The provider of a certified plan with its seats. Only want of memory refuses it.
@@ -113,6 +145,7 @@ fn started<R: Wait, B: Book>(
     rt: &R,
     alloc: Global,
     plan: Plan,
+    lanes: u32,
     now: u64,
     runs: &mut Runs,
 ) -> Result<(Provider<B, NoGate>, Vec<Recorder>, Vec<Collector>), SetupFault>
@@ -127,7 +160,7 @@ fn started<R: Wait, B: Book>(
     ensures not_given { OnErr result (runs.new ≡ runs.old) }
     ensures memory { IfErr result (λ fault. fault ≡ SetupFault.Memory) }
 {
-    match start::<R, B, NoGate>(rt, alloc, plan, now, runs.coming(), NoGate) {
+    match start_with_lanes::<R, B, NoGate>(rt, alloc, plan, now, runs.coming(), NoGate, lanes) {
         Ok(opened) => {
             let _ = runs.next();
             Ok(opened)

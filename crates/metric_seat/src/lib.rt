@@ -3,7 +3,6 @@
 #![tactic(auto)]
 
 mod admission;
-mod counted;
 mod fault;
 mod held;
 mod keys;
@@ -11,15 +10,16 @@ mod notes;
 mod reader;
 mod recorder;
 mod settling;
+mod tally;
 mod tells;
 mod total;
 
-pub use counted::Counted;
 pub use fault::{FinishFault, SetsFault};
 pub use held::{Collected, Held};
 pub use keys::Measurement;
 pub use reader::ReaderSeat;
 pub use recorder::RecorderSeat;
 pub use settling::{are_distinct, has_each, has_seat, total_of_all, total_of_some};
+pub use tally::Tally;
 pub use tells::Tells;
 pub use total::Total;

@@ -2,7 +2,7 @@
 ghost use Rattle.std.specs.Prelude.{◌≡◌, ◌<◌, ◌^◌, IfNone, IfSome, OnSome, SomeIff};
 ghost use Rattle.metric_seat.specs.Settlements.{IsAsTold, IsPartlyTold, IsTellable, are_distinct, are_spent, has_each, has_seat, sum_above, told_amount, told_count, told_total};
 
-use crate::counted::Counted;
+use crate::tally::Tally;
 use crate::tells::Tells;
 use crate::total::Total;
 use metric_slot::{is_above, least_sum};
@@ -36,11 +36,7 @@ pub fn has_each<S: Tells>(seats: &[S], recorders: usize) -> bool
 }
 
 /// The total of an instrument, where its numbers are what the seats of all its recorders were told.
-pub fn total_of_all<C: Counted, S: Tells>(
-    counted: &C,
-    seats: &[S],
-    instrument: u32,
-) -> Option<Total>
+pub fn total_of_all<C: Tally, S: Tells>(counted: &C, seats: &[S], instrument: u32) -> Option<Total>
     ensures told { OnSome result (
         IsAsTold S.numbered (λ seat. S.tells seat instrument) (C.numbers counted.now) seats.now) }
     ensures total { IfSome result (λ total.
@@ -69,11 +65,7 @@ pub fn total_of_all<C: Counted, S: Tells>(
 /// What the seats of some recorders were told of an instrument that has as many recordings of each as it was told of,
 /// where that has 64 bits and its sum 128. Of the other recorders nothing is known, so that nothing is compared with
 /// the instrument's count and sum.
-pub fn total_of_some<C: Counted, S: Tells>(
-    counted: &C,
-    seats: &[S],
-    instrument: u32,
-) -> Option<Total>
+pub fn total_of_some<C: Tally, S: Tells>(counted: &C, seats: &[S], instrument: u32) -> Option<Total>
     ensures told { OnSome result (
         IsPartlyTold S.numbered (λ seat. S.tells seat instrument) (C.numbers counted.now) seats.now) }
     ensures total { IfSome result (λ total.
@@ -90,7 +82,7 @@ pub fn total_of_some<C: Counted, S: Tells>(
 }
 
 // Whether the instrument has as many recordings of each recorder as its seat was told of.
-fn are_spent<C: Counted, S: Tells>(counted: &C, seats: &[S], instrument: u32) -> bool
+fn are_spent<C: Tally, S: Tells>(counted: &C, seats: &[S], instrument: u32) -> bool
     ensures { let spent = (C.numbers counted.now).spent in
         result ≡ are_spent S.numbered (λ seat. S.tells seat instrument) spent seats.now }
 {

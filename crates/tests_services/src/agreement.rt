@@ -1,7 +1,7 @@
 //! The answers of seats in one thread beside the replies of a core.
 use crate::asserted::{OrFail, assert_equal};
 use crate::samples::{BOTH, CODES, HITS, MAIN, PAIRS, SPARED};
-use crate::seats::{BookSeats, seats_of};
+use crate::seats::{BookSeats, seats_in_lanes};
 use crate::texts::write_reply;
 use metric_audit::Audited;
 use metric_book::Book;
@@ -67,7 +67,7 @@ pub(crate) fn write_core<R: Abort, B: Book>(
     }
 }
 
-/// Writes a line for the answer of a seat or the provider to each event.
+/// Writes a line for the answer of a seat or the provider to each event, where an instrument has so many lanes at most.
 pub(crate) fn write_seats<R: Abort + Wait, B: Book>(
     out: &mut String,
     rt: &R,
@@ -75,8 +75,9 @@ pub(crate) fn write_seats<R: Abort + Wait, B: Book>(
     catalogue: &str,
     config: &str,
     script: &ScriptEvents,
+    lanes: u32,
 ) {
-    let mut seats: BookSeats<B> = seats_of(rt, alloc, catalogue, config, script.start, 1);
+    let mut seats: BookSeats<B> = seats_in_lanes(rt, alloc, catalogue, config, script.start, lanes);
     seats.write_answers(out, rt, alloc, script.events.as_slice());
 }
 
@@ -319,7 +320,9 @@ fn write_both<R: Abort + Wait, B: Book>(out: &mut String, rt: &R, alloc: Global,
     let script = script_of(rt, alloc, sample.script);
     let (catalogue, config) = (sample.catalogue, sample.config);
     write_core::<R, B>(out, rt, alloc, catalogue, config, &script);
-    write_seats::<R, B>(out, rt, alloc, catalogue, config, &script);
+    for lanes in [1, 3] {
+        write_seats::<R, B>(out, rt, alloc, catalogue, config, &script, lanes);
+    }
 }
 
 // The answers of a core and of seats over each book, one after the other.
@@ -334,7 +337,7 @@ fn told<R: Abort + Wait>(rt: &R, alloc: Global, sample: &Sample) -> String {
 #[test]
 fn seats_answer_as_core(rt: HostRuntime) {
     for sample in SAMPLES {
-        let wanted = sample.answers.repeat(rt.alloc(), 6).or_fail(&rt);
+        let wanted = sample.answers.repeat(rt.alloc(), 9).or_fail(&rt);
         assert_equal(&rt, told(&rt, rt.alloc(), sample).as_str(), wanted.as_str());
     }
 }

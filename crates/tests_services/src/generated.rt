@@ -78,18 +78,24 @@ fn input_of<R: Abort>(rt: &R, alloc: Global, number: u64) -> String {
     input
 }
 
-// Whether the seats over a book answer this, and its core too.
+// Whether a core over a book answers this, its seats too, and those over two lanes.
 fn is_answered<R: Abort + Wait, B: Book>(
     rt: &R,
     alloc: Global,
     script: &ScriptEvents,
     wanted: &str,
-) -> [bool; 2] {
+) -> [bool; 3] {
     let mut core = String::new(alloc);
     write_core::<R, B>(&mut core, rt, alloc, SHARED, BOTH, script);
     let mut seats = String::new(alloc);
-    write_seats::<R, B>(&mut seats, rt, alloc, SHARED, BOTH, script);
-    [core.as_str() == wanted, seats.as_str() == wanted]
+    write_seats::<R, B>(&mut seats, rt, alloc, SHARED, BOTH, script, 1);
+    let mut lanes = String::new(alloc);
+    write_seats::<R, B>(&mut lanes, rt, alloc, SHARED, BOTH, script, 2);
+    [
+        core.as_str() == wanted,
+        seats.as_str() == wanted,
+        lanes.as_str() == wanted,
+    ]
 }
 
 // Whether each book answers a script as the plain one does.
@@ -98,7 +104,7 @@ fn agreement<R: Abort + Wait>(
     rt: &R,
     alloc: Global,
     number: u64,
-) -> [[bool; 2]; 3] {
+) -> [[bool; 3]; 3] {
     let script = script_of(rt, alloc, &input_of(rt, alloc, number));
     let mut wanted = String::new(alloc);
     write_core::<R, JournalBook>(&mut wanted, rt, alloc, SHARED, BOTH, &script);
@@ -124,7 +130,7 @@ fn seats_answer_scripts_as_core(rt: HostRuntime) {
     let mut seen = String::new(rt.alloc());
     for number in 1..=SCRIPTS {
         let found = agreement(&mut seen, &rt, rt.alloc(), number);
-        assert_equal(&rt, (number, found), (number, [[true, true]; 3]));
+        assert_equal(&rt, (number, found), (number, [[true, true, true]; 3]));
     }
     assert_equal(&rt, first_unseen(&seen), None);
 }

@@ -6,7 +6,7 @@ use metric_book::Book;
 use metric_contents::{Attr, OwnedAttr, Refusal};
 use metric_history::{Event, Reply};
 use metric_marked::Marked;
-use metric_provider::{Collector, NoGate, Provider, Recorder, start};
+use metric_provider::{Collector, NoGate, Provider, Recorder, start, start_with_lanes};
 use metric_sdk::certified_plan;
 use std::alloc::Global;
 use std::process::Abort;
@@ -34,12 +34,33 @@ pub(crate) fn seats_of<R: Abort + Wait, B: Book>(
 ) -> BookSeats<B> {
     let plan = certified_plan(alloc, catalogue, config).or_fail(rt);
     match start(rt, alloc, plan, since, run, NoGate) {
-        Ok((provider, recorders, collectors)) => BookSeats {
-            provider,
-            recorders,
-            collectors,
-        },
+        Ok(made) => seated(made),
         Err((_, _, refused)) => Err(refused).or_fail(rt),
+    }
+}
+
+/// The same, where an instrument has so many lanes at most.
+pub(crate) fn seats_in_lanes<R: Abort + Wait, B: Book>(
+    rt: &R,
+    alloc: Global,
+    catalogue: &str,
+    config: &str,
+    since: u64,
+    lanes: u32,
+) -> BookSeats<B> {
+    let plan = certified_plan(alloc, catalogue, config).or_fail(rt);
+    match start_with_lanes(rt, alloc, plan, since, 1, NoGate, lanes) {
+        Ok(made) => seated(made),
+        Err((_, _, refused)) => Err(refused).or_fail(rt),
+    }
+}
+
+fn seated<B: Book>(made: (Provider<B, NoGate>, Vec<Recorder>, Vec<Collector>)) -> BookSeats<B> {
+    let (provider, recorders, collectors) = made;
+    BookSeats {
+        provider,
+        recorders,
+        collectors,
     }
 }
 

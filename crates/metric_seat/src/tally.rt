@@ -6,7 +6,7 @@ use metric_book::Book;
 use metric_core::Cell;
 
 /// What has counted the recordings of one instrument: its state, or several states that have them together.
-pub trait Counted {
+pub trait Tally {
     // What it has counted.
     ghost numbers: { Self → Numbers };
 
@@ -27,7 +27,7 @@ pub trait Counted {
         ensures { result ≡ (numbers self.now).total };
 }
 
-impl<B: Book> Counted for Cell<B> {
+impl<B: Book> Tally for Cell<B> {
     ghost use Rattle.metric_seat.specs.Settlements.{numbers_of};
 
     ghost numbers = { λ cell. numbers_of cell };
