@@ -1,6 +1,6 @@
 //! The refusals that a seat counted, one by one.
 ghost use Rattle.std.specs.Prelude.{◌≡◌, ◌++◌, IfOk, OnOk};
-ghost use Rattle.metric_handles.specs.Refused.{all_refusals, is_told, refusal_on, refusals_of, refusals_on};
+ghost use Rattle.metric_handles.specs.Refused.{EachIsTold, all_refusals, is_told, refusal_on, refusals_of, refusals_on};
 
 use crate::counted::{Counted, Counts};
 use metric_contents::Refusal;
@@ -64,8 +64,10 @@ fn add_refusal(
 }
 
 // Each refusal, in the order in which they are tried.
+#[tactic(auto, using(crate::specs::Refused::each_is_told))]
 fn refusals() -> &'static [Refusal]
-    ensures { result.now ≡ all_refusals }
+    ensures all { result.now ≡ all_refusals }
+    ensures each { EachIsTold }
 {
     &Refusal::ALL
 }

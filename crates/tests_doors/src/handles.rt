@@ -342,6 +342,12 @@ const REFUSED_BY_HANDLES: &[(u32, Refusal, u64)] = &[
     (3, Refusal::Budget, 0),
 ];
 
+// The same, one by one.
+const LISTED: &str = "Refused { instrument: 0, refusal: UnknownValue, count: 1 }
+Refused { instrument: 0, refusal: ValueRange, count: 1 }
+Refused { instrument: 0, refusal: Budget, count: 2 }
+";
+
 #[test]
 fn handles_record_with_a_seat_that_counts(rt: HostRuntime) {
     let mut service = make_service(&rt, rt.alloc());
@@ -358,6 +364,11 @@ fn handles_record_with_a_seat_that_counts(rt: HostRuntime) {
         assert_equal(&rt, counted.refused(*instrument, *refusal), *times);
     }
     assert_equal(&rt, (counted.untried(0), counted.untried(1)), (2, 0));
+    let mut listed = String::new(rt.alloc());
+    for refused in counted.refusals(rt.alloc()).or_fail(&rt).as_slice() {
+        writeln!(listed, "{refused:?}").or_fail(&rt);
+    }
+    assert_equal(&rt, listed.as_str(), LISTED);
     let told = counted.into_seat().accepted(0).map(|told| told.count);
     assert_equal(&rt, told, Some(6));
 }

@@ -2,7 +2,8 @@
 use crate::asserted::{OrFail, assert_equal};
 use metric_sdk::{
     Catalogue, Collector, Config, CutSink, EndFault, Marked, MeterProvider, NoGate, Recorder, Runs,
-    SetupFault, TextExporter, Totals, make, now, open, open_certified, shutdown_all,
+    SetupFault, TextExporter, Totals, make, now, open, open_certified, open_with_lanes,
+    shutdown_all,
 };
 use std::alloc::Global;
 use std::process::Abort;
@@ -81,10 +82,12 @@ fn write_opened<R: Abort>(out: &mut String, rt: &R, opened: &Opened) {
 fn two_texts_are_opened(rt: HostRuntime) {
     let mut runs = Runs::new();
     for [catalogue, config, wanted] in OPENED {
-        let opened = open(&rt, rt.alloc(), catalogue, config, 5, &mut runs);
-        let mut told = String::new(rt.alloc());
-        write_opened(&mut told, &rt, &opened);
-        assert_equal(&rt, told.as_str(), wanted);
+        for lanes in [1, 2] {
+            let opened = open_with_lanes(&rt, rt.alloc(), catalogue, config, lanes, 5, &mut runs);
+            let mut told = String::new(rt.alloc());
+            write_opened(&mut told, &rt, &opened);
+            assert_equal(&rt, told.as_str(), wanted);
+        }
     }
 }
 

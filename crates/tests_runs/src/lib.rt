@@ -29,7 +29,6 @@ mod facts;
 #[cfg(test)]
 mod inputs;
 #[cfg(test)]
-mod lanes;
 #[cfg(test)]
 mod pages;
 #[cfg(test)]
