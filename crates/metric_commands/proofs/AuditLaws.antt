@@ -333,11 +333,13 @@ agrees_with_slips run start i own o h legal slips s r = elim (cases_lt r (length
 -- where none passes a test, nor does the next, none of the longer list does
 none_more : {X : Type 0} (p : X → Bool) (n : ℕ) (xs : List X) (x : X) → position_from p n xs ≡ None → p x ≡ false → position_from p n (xs ++ x ∷ []) ≡ None
 none_more p n [] x none last = rw last refl
-none_more p n (y ∷ ys) x none last = at (p y) none
+none_more p n (y ∷ ys) x none last = at (p y) none (λ later. none_more p (n + 1) ys x later last)
   where
-    at : (b : Bool) → cond b (Some n) (position_from p (n + 1) ys) ≡ None → cond b (Some n) (position_from p (n + 1) (ys ++ x ∷ [])) ≡ None
-    at true some = some
-    at false later = none_more p (n + 1) ys x later last
+    at : (b : Bool) → cond b (Some n) (position_from p (n + 1) ys) ≡ None
+        → (position_from p (n + 1) ys ≡ None → position_from p (n + 1) (ys ++ x ∷ []) ≡ None)
+        → cond b (Some n) (position_from p (n + 1) (ys ++ x ∷ [])) ≡ None
+    at true some rest = some
+    at false later rest = rest later
 
 possible_step : (run : RunFacts) (start : ℕ) (h : History) (i : ℕ) (own : Facts) (event : Event) (reply : Reply) → Happens run start h i own event reply
     → first_impossible own (accepted run h i) ≡ None
