@@ -194,7 +194,7 @@ fn change_batch(batches: &mut Vec<Batch>, change: &Change) {
     }
 }
 
-fn change<R: Abort>(rt: &R, alloc: Global, told: &mut Told, change: &Change) {
+fn make_change<R: Abort>(rt: &R, alloc: Global, told: &mut Told, change: &Change) {
     let Told { totals, batches } = told;
     change_batch(batches, change);
     match change {
@@ -224,7 +224,7 @@ fn a_run_is_audited_as_a_whole(rt: HostRuntime) {
     let alloc = rt.alloc();
     for (extent, altered, wanted) in AUDITS {
         let mut told = run(&rt, alloc);
-        change(&rt, alloc, &mut told, altered);
+        make_change(&rt, alloc, &mut told, altered);
         let plan = certified_plan(alloc, SHOP, READERS).or_fail(&rt);
         let answer = answer(&rt, alloc, &plan, told, *extent);
         assert_equal(&rt, answer.as_str(), wanted);
