@@ -121,12 +121,10 @@ const RUNS: &[Run] = &[
 // The provider of a run with the seat of its recorder.
 fn open_seat<R: Abort + Wait>(rt: &R, alloc: Global, run: u64) -> (MeterProvider, Recorder) {
     let plan = certified_plan(alloc, SHOP, READERS).or_fail(rt);
-    let (provider, mut seats) = match start::<_, Marked, NoGate>(rt, alloc, plan, 0, run, NoGate) {
-        Ok((provider, seats, _)) => (provider, seats),
+    match start::<R, Marked, NoGate>(rt, alloc, plan, 0, run, NoGate) {
+        Ok((provider, mut seats, _readers)) => (provider, seats.pop().expect(rt, "no recorder")),
         Err((_, _, refused)) => Err(refused).or_fail(rt),
-    };
-    let seat = seats.pop().expect(rt, "no recorder");
-    (provider, seat)
+    }
 }
 
 fn asking<R: Abort, S: Drop>(rt: &R, alloc: Global, plan: &Plan, seat: S, each: u64) -> Asking<S> {
