@@ -87,14 +87,8 @@ impl Sharing {
                 "one instrument, lists of 16",
                 "one instrument, lists, throughput",
             ),
-            Sharing::Lanes => (
-                "one instrument, a lane each",
-                "one instrument, a lane each, throughput",
-            ),
-            Sharing::LanesByLists => (
-                "one instrument, a lane each, lists of 16",
-                "one instrument, a lane each, lists, throughput",
-            ),
+            Sharing::Lanes => ("a lane each", "a lane each, throughput"),
+            Sharing::LanesByLists => ("a lane each, lists of 16", "a lane each, lists, throughput"),
             _ => ("one instrument", "one instrument, throughput"),
         }
     }

@@ -1,8 +1,9 @@
 //! Hostile use: calls that a watcher refuses memory, one allocation after the other, and a soak of running threads.
 //!
 //! `metric_hostile CALL BOOK DATA` makes a call for `tools/refuse-each` (`refusals`), `metric_hostile soak --seconds N`
-//! lets recorders and readers work until N seconds have passed (`soak`). Without words each call is made over each book
-//! and each data with memory enough, and threads make one short round over each book.
+//! lets recorders and readers work until N seconds have passed (`soak`), with `--lanes L` over instruments of up to L
+//! lanes. Without words each call is made over each book and each data with memory enough, and threads make one short
+//! round over each book.
 #![tactic(auto)]
 
 mod refusals;

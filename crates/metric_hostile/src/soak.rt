@@ -1,12 +1,12 @@
 //! A soak of running threads: recorders and readers that never rest, and at the end every number compared.
 //!
 //! Rounds are made over [`Marked`] and over [`Audited`] in turn, and what they did is printed in numbers. In a round
-//! each recorder, of which there are two more than processors, records in a thread of its own on instruments whose
-//! streams are bounded by product, by list and by budget. It asks for more where a budget is spent, and one of them
-//! closes an instrument midway. Two readers, one delta and one cumulative, collect all instruments again and again.
-//! Then it is compared: the totals with what each recorder was told, each batch of a reader with the one before it, the
-//! last ones with the totals; over [`Audited`] all batches are audited. Where anything is off, it says what, and ends
-//! with a status other than 0.
+//! each recorder, of which there are two more than processors, records in a thread of its own on instruments of one lane
+//! or several, whose streams are bounded by product, by list and by budget. It asks for more where a budget is spent, and
+//! one of them closes an instrument midway. Two readers, one delta and one cumulative, collect all instruments again and
+//! again. Then it is compared: the totals with what each recorder was told, each batch of a reader with the one before
+//! it, the last ones with the totals; over [`Audited`] all batches are audited. Where anything is off, it says what, and
+//! ends with a status other than 0.
 
 mod ends;
 mod figures;
@@ -20,6 +20,7 @@ mod words;
 use crate::soak::figures::Figures;
 use crate::soak::inputs::catalogue;
 use crate::soak::rounds::{Length, Setup, round};
+use crate::soak::words::Words;
 use anyhow::bail;
 use metric_book::Book;
 use metric_sdk::{Audited, Marked};
@@ -44,12 +45,16 @@ const AUDITED: Length = Length { events: 12_000 };
 
 const SHORT: Length = Length { events: 600 };
 
+// How many lanes an instrument may have in the short ones: fewer than recorders, so that some share a lane.
+const LANES: u32 = 4;
+
 // What all rounds have.
-fn setup_of<R: Threads>(rt: &R, alloc: Global) -> anyhow::Result<Setup> {
+fn setup_of<R: Threads>(rt: &R, alloc: Global, lanes: u32) -> anyhow::Result<Setup> {
     let recorders = recorders_of(rt)?;
     Ok(Setup {
         catalogue: catalogue(alloc, recorders)?,
         recorders,
+        lanes,
     })
 }
 
@@ -65,7 +70,7 @@ pub(crate) fn try_once<R: Threads + Wait + Clock + Print + Sync>(
     rt: &R,
     alloc: Global,
 ) -> anyhow::Result<()> {
-    let setup = setup_of(rt, alloc)?;
+    let setup = setup_of(rt, alloc, LANES)?;
     let mut figures = Figures::new();
     add_round::<R, Marked>(rt, alloc, &setup, SHORT, &mut figures)?;
     println!(rt; "marked: nothing is off")?;
@@ -80,8 +85,8 @@ pub(crate) fn run<R: Threads + Wait + Clock + Print + Sync>(
     alloc: Global,
     words: &[String],
 ) -> anyhow::Result<()> {
-    let seconds = words::seconds_of(words)?;
-    soak(rt, alloc, &setup_of(rt, alloc)?, seconds)
+    let Words { seconds, lanes } = words::read(words)?;
+    soak(rt, alloc, &setup_of(rt, alloc, lanes)?, seconds)
 }
 
 // Makes rounds over each book in turn until so many seconds have passed, and prints what they did.
@@ -101,7 +106,10 @@ fn soak<R: Threads + Wait + Clock + Print + Sync>(
             break;
         }
     }
-    println!(rt; "{} recorders and 2 readers", setup.recorders)?;
+    println!(rt;
+        "{} recorders and 2 readers, at most {} lanes",
+        setup.recorders, setup.lanes
+    )?;
     print_figures(rt, "marked", &marked)?;
     print_figures(rt, "audited", &audited)?;
     Ok(())

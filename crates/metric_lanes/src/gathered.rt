@@ -166,8 +166,9 @@ impl Gathered {
     }
 }
 
-// Whether the values of each stream of the instrument join.
-fn all_join(facts: &Facts) -> bool
+/// Whether the values of each stream of the instrument join, so that it may have several lanes. Sums and histograms do;
+/// of last values none says which is the later one.
+pub fn all_join(facts: &Facts) -> bool
     ensures { result ≡ values_join facts.now }
 {
     facts.streams.as_slice().iter().all(|stream| joins(stream))

@@ -10,5 +10,5 @@ mod joining;
 pub mod laws;
 mod together;
 
-pub use gathered::{Asked, Gathered};
+pub use gathered::{Asked, Gathered, all_join};
 pub use together::put_together;

@@ -8,7 +8,7 @@ use crate::soak::reading::{Off, Signs, Watcher};
 use crate::soak::recording::Worker;
 use anyhow::bail;
 use metric_book::Book;
-use metric_sdk::{Collector, NoGate, Plan, Provider, Recorder, certified_plan, start};
+use metric_sdk::{Collector, NoGate, Plan, Provider, Recorder, certified_plan, start_with_lanes};
 use std::alloc::{AllocError, Global};
 use std::sync::Wait;
 use std::sync::atomic::{AtomicU64, Ordering};
@@ -24,6 +24,8 @@ pub(crate) const START: u64 = 0;
 pub(crate) struct Setup {
     pub catalogue: String,
     pub recorders: u32,
+    /// How many lanes an instrument may have.
+    pub lanes: u32,
 }
 
 /// How long a round is.
@@ -77,8 +79,8 @@ pub(crate) fn round<R: Threads + Wait + Clock + Sync, B: Book + Send + Sync>(
     figures: &mut Figures,
 ) -> anyhow::Result<()> {
     add(&mut figures.rounds, 1);
-    let plan = plan_of(alloc, setup)?;
-    match start::<R, B, NoGate>(rt, alloc, plan, START, figures.rounds, NoGate) {
+    let (plan, run) = (plan_of(alloc, setup)?, figures.rounds);
+    match start_with_lanes::<R, B, NoGate>(rt, alloc, plan, START, run, NoGate, setup.lanes) {
         Ok((provider, recorders, collectors)) => {
             let mut runners = runners_of(alloc, recorders, collectors)?;
             run_all(rt, alloc, &provider, &mut runners, setup, length)?;
