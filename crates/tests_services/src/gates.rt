@@ -4,7 +4,7 @@ use crate::asserted::{OrFail, assert_equal};
 use crate::samples::{MAIN, PAIR};
 use metric_contents::Refusal;
 use metric_marked::Marked;
-use metric_provider::{Collector, Gate, Measurement, Provider, Recorder, start};
+use metric_provider::{Collector, Gate, Measurement, Provider, Recorder, start, start_with_lanes};
 use metric_sdk::certified_plan;
 use std::alloc::Global;
 use std::process::Abort;
@@ -17,7 +17,7 @@ use std::thread::{Threads, join};
 const TURNS: u32 = 1_000_000;
 
 // How often at what is not: each look hands the processor on, and on a busy machine takes long.
-const HELD_TURNS: u32 = 1_000;
+const HELD_TURNS: u32 = 400;
 
 // How many steps were made, whether the first instrument was entered, whether the second thread was answered, and
 // whether a step that was held saw another one or that answer; how many steps are held, and how often each looks.
@@ -196,7 +196,7 @@ fn answers<R: Abort + Threads + Wait + Sync>(
     flags: &Flags,
 ) -> Answers {
     let plan = certified_plan(alloc, PAIR, MAIN).or_fail(rt);
-    match start(rt, alloc, plan, 0, 0, Holding { flags }) {
+    match start_with_lanes(rt, alloc, plan, 0, 0, Holding { flags }, case.lanes) {
         Ok((provider, recorders, readers)) => {
             both_answers(rt, alloc, &provider, (recorders, readers), case, flags)
         }
@@ -204,9 +204,11 @@ fn answers<R: Abort + Threads + Wait + Sync>(
     }
 }
 
-// The step of the first thread, the instrument of the second one's recording with its answer, and whether that is made
-// while the first one is held: for a list, at its last recording.
+// How many lanes an instrument may have, of which each thread records in its own; the step of the first thread, the
+// instrument of the second one's recording with its answer, and whether that is made while the first one is held: for a
+// list, at its last recording.
 struct Case {
+    lanes: u32,
     step: Step,
     instrument: u32,
     answer: Result<(), Refusal>,
@@ -215,36 +217,70 @@ struct Case {
 
 const CASES: &[Case] = &[
     Case {
+        lanes: 1,
         step: Step::Record,
         instrument: 1,
         answer: Ok(()),
         is_seen: true,
     },
     Case {
+        lanes: 1,
         step: Step::Record,
         instrument: 0,
         answer: Ok(()),
         is_seen: false,
     },
     Case {
+        lanes: 1,
         step: Step::List,
         instrument: 0,
         answer: Ok(()),
         is_seen: false,
     },
     Case {
+        lanes: 1,
         step: Step::Collect,
         instrument: 0,
         answer: Ok(()),
         is_seen: false,
     },
     Case {
+        lanes: 1,
         step: Step::Close,
         instrument: 0,
         answer: Err(Refusal::Closed),
         is_seen: false,
     },
     Case {
+        lanes: 1,
+        step: Step::Grant,
+        instrument: 0,
+        answer: Ok(()),
+        is_seen: false,
+    },
+    Case {
+        lanes: 2,
+        step: Step::Record,
+        instrument: 0,
+        answer: Ok(()),
+        is_seen: true,
+    },
+    Case {
+        lanes: 2,
+        step: Step::Collect,
+        instrument: 0,
+        answer: Ok(()),
+        is_seen: false,
+    },
+    Case {
+        lanes: 2,
+        step: Step::Close,
+        instrument: 0,
+        answer: Err(Refusal::Closed),
+        is_seen: false,
+    },
+    Case {
+        lanes: 2,
         step: Step::Grant,
         instrument: 0,
         answer: Ok(()),

@@ -33,6 +33,8 @@ mod hosted;
 #[cfg(test)]
 mod keys;
 #[cfg(test)]
+mod lanes;
+#[cfg(test)]
 mod partly;
 #[cfg(test)]
 mod periods;
