@@ -90,6 +90,18 @@ const CATALOGUES: &[(&str, &str)] = &[
         "format = 1\n[[recorder]]\nname = 'r'\nbudget = [{ instrument = 7, amount = 1 }]",
         ":4:13: recorder 0 \"r\": budget 0: field \"instrument\": there is no instrument 7; the catalogue has 0, numbered from 0",
     ),
+    (
+        "format = 1\r\n[[recorder]]\r\n\tname = 7\r\n",
+        ":3:2: recorder 0: field \"name\": expected text, found 7",
+    ),
+    (
+        "format = 1\n[[meter]]\nname = 'm'\nversion = \"\"\"\n[[meter.instrument]]\n\"\"\"\n[[meter.instrument]]\nname = 'one'\nkind = 'gauge'\nrange = [0, 1]\n[[meter.instrument]]\nname = 'two'\nkind = 'guage'",
+        ":13:1: instrument 1 \"two\": unknown kind \"guage\"; expected counter, up_down_counter, histogram or gauge; did you mean gauge?",
+    ),
+    (
+        "format = 1\n[[meter]]\nname = 'a'\ninstrument = [{ name = 'x', kind = 'gauge', range = [0, 1] }]\n[[meter]]\nname = 'b'\n[[meter.instrument]]\nname = 'one'\nkind = 'gauge'\nrange = [1]",
+        ":10:1: instrument 1 \"one\": field \"range\": expected two whole numbers, found a list",
+    ),
 ];
 
 #[test]
@@ -315,6 +327,10 @@ const CONFIGS: &[(&str, &str)] = &[
         ":3:1: reader 0: unknown field \"limits\"; expected name, temporality, aggregation or limit; did you mean limit?",
     ),
     (
+        "format = 1\n[[reader]]\nlimit = { counter = 3 }",
+        ":2:1: reader 0: missing field \"name\"",
+    ),
+    (
         "format = 1\n[[reader]]\nname = 'r'\n[[reader]]\nname = 'r'\nlimit = 3",
         ":5:1: reader 1 \"r\": field \"name\": an earlier reader has the same name",
     ),
@@ -439,6 +455,11 @@ const BROKEN: &[(&str, &str, &str)] = &[
         "catalogue.toml:2:",
         "    2 | name = 'é\u{241b}[2J'\n",
     ),
+    (
+        "format = 1\n[[recorder]]\nname = \"éééé\" x\n",
+        "catalogue.toml:3:15: ",
+        "    3 | name = \"éééé\" x\n      |               ^\n",
+    ),
 ];
 
 fn of_broken<R: Abort>(rt: &R, alloc: Global, text: &str) -> (String, String) {
@@ -463,6 +484,120 @@ fn texts_that_are_no_toml_are_told_with_their_line(rt: HostRuntime) {
         assert_equal(&rt, excerpt.as_str().starts_with(*line), true);
         assert_equal(&rt, told.as_str().contains("not valid TOML: "), true);
     }
+}
+
+#[test]
+fn a_config_that_is_no_toml_is_told_with_its_place(rt: HostRuntime) {
+    let told = of_config(&rt, rt.alloc(), "format = 1\n[[reader]]\nname = \"é\" x\n");
+    assert_equal(
+        &rt,
+        told.as_str()
+            .starts_with("config.toml:3:12: not valid TOML: "),
+        true,
+    );
+}
+
+// What a text begins with, what stands in it so many times, what it ends with, and what is told of it.
+#[derive(Clone, Copy)]
+struct Long {
+    begin: &'static str,
+    piece: &'static str,
+    count: usize,
+    end: &'static str,
+    wanted: &'static str,
+}
+
+const LONG_CATALOGUES: &[Long] = &[
+    Long {
+        begin: "format = 1\nmeter = [",
+        piece: "{ name = 'm' }, ",
+        count: 65,
+        end: "]",
+        wanted: ":2:1: field \"meter\" is too long; at most 64 meters are allowed",
+    },
+    Long {
+        begin: "format = 1\n[[meter]]\nname = 'm'\nversion = '",
+        piece: "é",
+        count: 1024,
+        end: "'",
+        wanted: ":4:1: meter 0 \"m\": field \"version\" is too long; at most 1023 characters are allowed",
+    },
+    Long {
+        begin: "format = 1\n[[meter]]\nname = 'm'\n[[meter.instrument]]\nname = 'i'\nkind = 'gauge'\nrange = [0, 1]\nkey = [{ name = 'k', values = [",
+        piece: "1, ",
+        count: 1001,
+        end: "] }]",
+        wanted: ":8:22: instrument 0 \"i\": key 0 \"k\": field \"values\" is too long; at most 1000 values are allowed",
+    },
+];
+
+const LONG_CONFIGS: &[Long] = &[
+    Long {
+        begin: "format = 1\nreader = [",
+        piece: "{ name = 'r' }, ",
+        count: 17,
+        end: "]",
+        wanted: ":2:1: field \"reader\" is too long; at most 16 readers are allowed",
+    },
+    Long {
+        begin: "format = 1\n[[view]]\nkeep = [",
+        piece: "'k', ",
+        count: 65,
+        end: "]",
+        wanted: ":3:1: view 0: field \"keep\" is too long; at most 64 keys, each of 1023 characters, are allowed",
+    },
+];
+
+fn long_text<R: Abort>(rt: &R, alloc: Global, long: &Long) -> String {
+    let mut text = String::from_str(alloc, long.begin).or_fail(rt);
+    for _ in 0..long.count {
+        text.push_str(long.piece).or_fail(rt);
+    }
+    text.push_str(long.end).or_fail(rt);
+    text
+}
+
+#[test]
+fn what_is_too_long_is_told_with_its_field(rt: HostRuntime) {
+    let alloc = rt.alloc();
+    for long in LONG_CATALOGUES {
+        let text = long_text(&rt, alloc, long);
+        let told = of_catalogue(&rt, alloc, text.as_str());
+        assert_equal(&rt, after(told.as_str(), "catalogue.toml"), long.wanted);
+    }
+    for long in LONG_CONFIGS {
+        let text = long_text(&rt, alloc, long);
+        let told = of_config(&rt, alloc, text.as_str());
+        assert_equal(&rt, after(told.as_str(), "config.toml"), long.wanted);
+    }
+}
+
+const FIFTY_SEVEN: &str = "ééééééééééééééééééééééééééééééééééééééééééééééééééééééééé";
+
+// A line of 254 characters, whose field `version` has 228 before it.
+#[test]
+fn a_long_line_is_cut_round_its_mark(rt: HostRuntime) {
+    let alloc = rt.alloc();
+    let long = Long {
+        begin: "format = 1\nmeter = [{ schema_url = '",
+        piece: "é",
+        count: 200,
+        end: "', version = 7, name = 'm' }]\n",
+        wanted: "c\u{241b}.toml:2:229: meter 0 \"m\": field \"version\": expected text, found 7\n    2 | ..",
+    };
+    let text = long_text(&rt, alloc, &long);
+    let (name, text) = ("c\u{1b}.toml", text.as_str());
+    let fault = Catalogue::read(alloc, text).err().expect(&rt, "read");
+    let told = diagnose_catalogue(alloc, NamedText { name, text }, fault).or_fail(&rt);
+    let excerpt = told.excerpt();
+    let shown = format!(in alloc; "{told}\n{excerpt}").or_fail(&rt);
+    let (begin, mark) = (
+        long.wanted,
+        "                                                              ^",
+    );
+    let end = "', version = 7, name = 'm' }]";
+    let wanted = format!(in alloc; "{begin}{FIFTY_SEVEN}{end}\n      | {mark}\n").or_fail(&rt);
+    assert_equal(&rt, shown.as_str(), wanted.as_str());
 }
 
 #[test]
