@@ -15,16 +15,17 @@ use Rattle.toml.proofs.ReadBack.{parse_document-printed}
 use Rattle.metric_table.specs.Fields.{field, only, table_of}
 use Rattle.metric_cert.specs.declared.claims.Claims.{Claims}
 use Rattle.metric_cert.specs.declared.fault.CertFault.{CertFault}
+use Rattle.metric_cert.specs.declared.fault.CertList.TheVariants as names
 use Rattle.metric_cert.specs.Bounds.{bound_of}
 use Rattle.metric_cert.specs.Certificates.{certificate_from, certificate_of, claims_of}
 use Rattle.metric_cert.specs.Formats.{has_list, is_formatted}
 use Rattle.metric_cert.specs.Orders.{order_of}
 use Rattle.metric_cert.specs.Printing.{AppendsEntries, AppendsEntry, AppendsLines, AppendsLists, IsFieldText, pair_of, pair_where, pairs_of}
-use Rattle.metric_cert.specs.Reading.{needed, table_as, tables_as}
+use Rattle.metric_cert.specs.Reading.{entries_as, needed, table_as}
 use Rattle.metric_cert.specs.Reasons.{reason_of}
 use Rattle.metric_cert.specs.Streams.{stream_of}
 use Rattle.metric_cert.specs.Writing.{IsPrintable}
-use Rattle.metric_cert.proofs.Written.{each_alone-push, list_of-array, printable-last, whole_of-pos}
+use Rattle.metric_cert.proofs.Written.{each_alone-push, entries_as-array, printable-last, whole_of-pos}
 
 -- ---- lines after lines
 
@@ -143,8 +144,8 @@ some_format format lists formatted =
     or_parts true b e = inl refl
     or_parts false b e = inr e
 
-certificate_read : (certificate : Claims) (bounds orders reasons streams : Data) → tables_as bound_of bounds ≡ Ok certificate.bounds
-    → tables_as order_of orders ≡ Ok certificate.orders → tables_as reason_of reasons ≡ Ok certificate.reasons → tables_as stream_of streams ≡ Ok certificate.streams
+certificate_read : (certificate : Claims) (bounds orders reasons streams : Data) → entries_as names.Bound bound_of bounds ≡ Ok certificate.bounds
+    → entries_as names.Order order_of orders ≡ Ok certificate.orders → entries_as names.Reason reason_of reasons ≡ Ok certificate.reasons → entries_as names.Stream stream_of streams ≡ Ok certificate.streams
     → is_formatted certificate ≡ true → certificate_of (whole certificate.format bounds orders reasons streams) ≡ Ok certificate
 unfolding certificate_of claims_of only needed field
 certificate_read certificate bounds orders reasons streams b o r s formatted =
@@ -225,7 +226,7 @@ certificate_printed certificate start middle text empty above lists formatted =
     let sorted : members_are_sorted fields ≡ true = rw (lists.bounds.printable.sorted, lists.orders.printable.sorted, lists.reasons.printable.sorted, lists.streams.printable.sorted) refl in
     let parsed : parse_document text ≡ Some fields = rw same (parse_document-printed false fields lines.text doc deep dated sorted) in
     rw parsed
-    (certificate_read certificate bounds orders reasons streams (list_of-array (table_as bound_of) bounds lists.bounds.values certificate.bounds refl lists.bounds.reads)
-    (list_of-array (table_as order_of) orders lists.orders.values certificate.orders refl lists.orders.reads)
-    (list_of-array (table_as reason_of) reasons lists.reasons.values certificate.reasons refl lists.reasons.reads)
-    (list_of-array (table_as stream_of) streams lists.streams.values certificate.streams refl lists.streams.reads) formatted)
+    (certificate_read certificate bounds orders reasons streams (entries_as-array names.Bound bound_of lists.bounds.values certificate.bounds lists.bounds.reads)
+    (entries_as-array names.Order order_of lists.orders.values certificate.orders lists.orders.reads)
+    (entries_as-array names.Reason reason_of lists.reasons.values certificate.reasons lists.reasons.reads)
+    (entries_as-array names.Stream stream_of lists.streams.values certificate.streams lists.streams.reads) formatted)

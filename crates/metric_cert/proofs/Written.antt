@@ -13,12 +13,15 @@ use Rattle.toml.proofs.Views.{Entry, items_are_sorted-last}
 use Rattle.std.proofs.lemmas.Bool.{eq-eqb}
 use Rattle.std.proofs.lemmas.Bool.Decides.{nat_tests}
 use mathlib.Core.List.{map-append}
-use Rattle.metric_base.specs.Steps.{◌>>=◌, in_turn, with_next}
+use Rattle.metric_base.specs.Steps.{◌>>=◌, in_turn, with_fault, with_next}
 use Rattle.metric_table.specs.Fields.{each_alone, integer_of, table_of, text_of, values_of as items_values}
 use Rattle.metric_text.specs.ReadingLaws.{number_of-text}
 use Rattle.metric_cert.specs.declared.fault.CertFault.{CertFault}
+use Rattle.metric_cert.specs.declared.fault.CertList.{CertList}
+use Rattle.metric_cert.specs.declared.fault.CertPlace.TheVariants as places
 use Rattle.metric_cert.proofs.Spelled.{wide_of-text}
-use Rattle.metric_cert.specs.Reading.{decimal_of, list_of, signed_decimal_of, table_as, values_of, whole_of}
+use Rattle.metric_cert.specs.Places.{at}
+use Rattle.metric_cert.specs.Reading.{decimal_of, entries_as, entry_as, list_of, signed_decimal_of, table_as, values_of, whole_of}
 use Rattle.metric_cert.specs.Streams.{set_key_of}
 use Rattle.metric_cert.specs.Writing.{IsPrintable, with_member}
 
@@ -47,6 +50,25 @@ pub list_of-array : {X : Type 0} (step : Data → Result X CertFault) (d : Data)
     → each_alone step (map view values) ≡ Ok xs → list_of step d ≡ Ok xs
 unfolding list_of values_of
 list_of-array step d values xs is read = rw (is, items_values-items_of (map view values)) read
+
+-- a table that is read alone is read behind any others
+behind : {X : Type 0} (list : CertList) (step : Members → Result X CertFault) (values : List Data) (before xs : List X) (r : Result X CertFault)
+    → ((y : X) → in_turn (with_next (λ _ e. table_as step e)) (before ++ y ∷ []) values ≡ Ok xs → in_turn (with_next (entry_as list step)) (before ++ y ∷ []) values ≡ Ok xs)
+    → ((r >>= λ y. Ok (before ++ y ∷ [])) >>= λ more. in_turn (with_next (λ _ e. table_as step e)) more values) ≡ Ok xs
+    → ((with_fault (at (places.Entry list (length before))) r >>= λ y. Ok (before ++ y ∷ [])) >>= λ more. in_turn (with_next (entry_as list step)) more values) ≡ Ok xs
+behind list step values before xs (Ok y) rest done = rest y done
+behind list step values before xs (Err f) rest done = absurd cc
+
+placed : {X : Type 0} (list : CertList) (step : Members → Result X CertFault) (values : List Data) (before xs : List X)
+    → in_turn (with_next (λ _ e. table_as step e)) before values ≡ Ok xs → in_turn (with_next (entry_as list step)) before values ≡ Ok xs
+placed list step [] before xs read = read
+placed list step (v ∷ values) before xs read =
+    behind list step values before xs (table_as step v) (λ y. placed list step values (before ++ y ∷ []) xs) read
+
+pub entries_as-array : {X : Type 0} (list : CertList) (step : Members → Result X CertFault) (values : List Value) (xs : List X)
+    → each_alone (table_as step) (map view values) ≡ Ok xs → entries_as list step (array (items_view values)) ≡ Ok xs
+unfolding entries_as values_of
+entries_as-array list step values xs read = rw (items_values-items_of (map view values)) (placed list step (map view values) [] xs read)
 
 pub set_key_of-array : (d : Data) (values : List Value) (set : List ℕ) → d ≡ array (items_view values) → each_alone (whole_of (2 ^ 16)) (map view values) ≡ Ok set
     → length set ≡ 8 → set_key_of d ≡ Ok set

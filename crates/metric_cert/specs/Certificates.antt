@@ -6,11 +6,13 @@ use Rattle.metric_base.specs.Steps.{◌>>=◌, require_some}
 use Rattle.metric_table.specs.Fields.{only}
 use Rattle.metric_cert.specs.declared.claims.Claims.{Claims}
 use Rattle.metric_cert.specs.declared.fault.CertFault.{CertFault}
-use Rattle.metric_cert.specs.declared.fault.CertFault.TheVariants.{NotToml, Shape}
+use Rattle.metric_cert.specs.declared.fault.CertFault.TheVariants.{NotToml}
+use Rattle.metric_cert.specs.declared.fault.CertList.TheVariants as lists
 use Rattle.metric_cert.specs.Bounds.{bound_of}
 use Rattle.metric_cert.specs.Formats.{is_formatted}
 use Rattle.metric_cert.specs.Orders.{order_of}
-use Rattle.metric_cert.specs.Reading.{needed, shape_faults, tables_as, whole_of}
+use Rattle.metric_cert.specs.Places.{list_name, misshapen}
+use Rattle.metric_cert.specs.Reading.{entries_as, needed, shape_faults, whole_of}
 use Rattle.metric_cert.specs.Reasons.{reason_of}
 use Rattle.metric_cert.specs.Streams.{stream_of}
 
@@ -22,10 +24,10 @@ certificate_fields =
 unfoldable pub claims_of : Members → Result Claims CertFault
 claims_of table = do
   format ← needed (whole_of (2 ^ 16)) (codes "format") table
-  reasons ← needed (tables_as reason_of) (codes "reason") table
-  streams ← needed (tables_as stream_of) (codes "stream") table
-  bounds ← needed (tables_as bound_of) (codes "bound") table
-  orders ← needed (tables_as order_of) (codes "order") table
+  reasons ← needed (entries_as lists.Reason reason_of) (list_name lists.Reason) table
+  streams ← needed (entries_as lists.Stream stream_of) (list_name lists.Stream) table
+  bounds ← needed (entries_as lists.Bound bound_of) (list_name lists.Bound) table
+  orders ← needed (entries_as lists.Order order_of) (list_name lists.Order) table
   Ok (record {
     format = format;
     reasons = reasons;
@@ -36,7 +38,7 @@ claims_of table = do
 
 -- claims of a format that there is
 abbrev pub formatted : Claims → Result Claims CertFault
-formatted claims = if is_formatted claims then Ok claims else Err Shape
+formatted claims = if is_formatted claims then Ok claims else Err misshapen
 
 -- what the certificate of a table says, which has exactly these fields
 unfoldable pub certificate_of : Members → Result Claims CertFault
@@ -46,7 +48,7 @@ certificate_of table = do
   formatted claims
 
 -- # certificate of a text (profile)
--- What the table that `toml` reads says, or that it is none.
+-- What the table that `toml` reads says, or that it is none; or the first table whose shape is wrong.
 abbrev pub certificate_from : List ℕ → Result Claims CertFault
 certificate_from text = do
   table ← require_some (parse_document text) NotToml

@@ -6,6 +6,7 @@ pub mod Decimals
 pub mod Formats
 pub mod Names
 pub mod Orders
+pub mod Places
 pub mod Printing
 pub mod Reading
 pub mod Reasons

@@ -5,7 +5,6 @@ use Rattle.toml.specs.Data.{Data}
 use Rattle.metric_base.specs.Steps.{◌>>=◌, require_some}
 use Rattle.metric_table.specs.Fields.{text_of}
 use Rattle.metric_cert.specs.declared.fault.CertFault.{CertFault}
-use Rattle.metric_cert.specs.declared.fault.CertFault.TheVariants.{Shape}
 use Rattle.metric_cert.specs.declared.reason.Criterion.{Criterion}
 use Rattle.metric_cert.specs.declared.reason.Criterion.TheVariants.{InstrumentType, InstrumentUnit}
 use Rattle.metric_cert.specs.declared.reason.Criterion.TheVariants.{MeterName, MeterVersion}
@@ -14,6 +13,7 @@ use Rattle.metric_cert.specs.declared.stream.BoundWord.{BoundWord}
 use Rattle.metric_cert.specs.declared.stream.BoundWord.TheVariants as words
 use Rattle.metric_cert.specs.declared.stream.By.{By}
 use Rattle.metric_cert.specs.declared.stream.By.TheVariants as by
+use Rattle.metric_cert.specs.Places.{misshapen}
 use Rattle.metric_cert.specs.Reading.{shape_faults}
 
 abbrev pub criterion_name : Criterion → List ℕ
@@ -35,7 +35,7 @@ criterion_named text =
 unfoldable pub criterion_of : Data → Result Criterion CertFault
 criterion_of d = do
   text ← text_of shape_faults d
-  require_some (criterion_named text) Shape
+  require_some (criterion_named text) misshapen
 
 abbrev pub word_name : BoundWord → List ℕ
 word_name words.Product = codes "product"
@@ -52,7 +52,7 @@ word_named text =
 unfoldable pub word_of : Data → Result BoundWord CertFault
 word_of d = do
   text ← text_of shape_faults d
-  require_some (word_named text) Shape
+  require_some (word_named text) misshapen
 
 -- the word for what bounds a stream
 abbrev pub word_for : By → BoundWord

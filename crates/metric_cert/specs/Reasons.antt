@@ -5,12 +5,12 @@ use Rattle.metric_base.specs.Steps.{◌>>=◌, require_some}
 use Rattle.metric_glob.specs.declared.reason.Reason.TheVariants.{Takes, Rows}
 use Rattle.metric_table.specs.Fields.{only}
 use Rattle.metric_cert.specs.declared.fault.CertFault.{CertFault}
-use Rattle.metric_cert.specs.declared.fault.CertFault.TheVariants.{Shape}
 use Rattle.metric_cert.specs.declared.reason.Criterion.{Criterion}
 use Rattle.metric_cert.specs.declared.reason.Evidence.{Evidence}
 use Rattle.metric_cert.specs.declared.reason.Evidence.TheVariants.{Name, Miss}
 use Rattle.metric_cert.specs.declared.reason.SelectionReason.{SelectionReason}
 use Rattle.metric_cert.specs.Names.{criterion_of}
+use Rattle.metric_cert.specs.Places.{misshapen}
 use Rattle.metric_cert.specs.Reading.{list_of, needed, optional, shape_faults, whole_of}
 use Rattle.metric_cert.specs.Writing.{Puts}
 
@@ -37,7 +37,7 @@ evidence_of table = do
   takes ← optional takes_of (codes "takes") table
   rows ← optional rows_of (codes "rows") table
   miss ← optional criterion_of (codes "miss") table
-  require_some (one_of takes rows miss) Shape
+  require_some (one_of takes rows miss) misshapen
 
 unfoldable pub reason_of : Members → Result SelectionReason CertFault
 reason_of table = do

@@ -5,13 +5,13 @@ use Rattle.toml.specs.Data.{Data, Members}
 use Rattle.metric_base.specs.Steps.{◌>>=◌, require, require_some}
 use Rattle.metric_table.specs.Fields.{only}
 use Rattle.metric_cert.specs.declared.fault.CertFault.{CertFault}
-use Rattle.metric_cert.specs.declared.fault.CertFault.TheVariants.{Shape}
 use Rattle.metric_cert.specs.declared.stream.BoundWord.{BoundWord}
 use Rattle.metric_cert.specs.declared.stream.BoundWord.TheVariants as words
 use Rattle.metric_cert.specs.declared.stream.By.{By}
 use Rattle.metric_cert.specs.declared.stream.By.TheVariants as by
 use Rattle.metric_cert.specs.declared.stream.StreamSets.{StreamSets}
 use Rattle.metric_cert.specs.Names.{word_of}
+use Rattle.metric_cert.specs.Places.{misshapen}
 use Rattle.metric_cert.specs.Reading.{list_of, needed, optional, shape_faults, whole_of}
 use Rattle.metric_cert.specs.Writing.{Puts}
 
@@ -24,7 +24,7 @@ stream_fields =
 unfoldable pub set_key_of : Data → Result (List ℕ) CertFault
 set_key_of d = do
   set ← list_of (whole_of (2 ^ 16)) d
-  _ ← require (length set == 8) Shape
+  _ ← require (length set == 8) misshapen
   Ok set
 
 -- a list of set keys
@@ -42,7 +42,7 @@ unfoldable pub by_of : Members → Result By CertFault
 by_of table = do
   word ← needed word_of (codes "by") table
   list ← optional set_keys_of (codes "list") table
-  require_some (by_with word list) Shape
+  require_some (by_with word list) misshapen
 
 unfoldable pub stream_of : Members → Result StreamSets CertFault
 stream_of table = do

@@ -10,8 +10,8 @@ ghost use Rattle.metric_cert.specs.Reading.{shape_faults};
 
 use crate::bound::BoundTable;
 use crate::claims::Claims;
-use crate::fault::{CertFault, shape_faults};
-use crate::fields::TableEntries;
+use crate::fault::{CertFault, CertList, MISSHAPEN, shape_faults};
+use crate::fields::entries;
 use crate::numbers::{ShortNumber, short};
 use crate::order::OrderTable;
 use crate::printing::{push_if_empty, push_list, push_pair};
@@ -50,7 +50,7 @@ impl Certificate {
         if claims.is_formatted() {
             Ok(Certificate { claims })
         } else {
-            Err(CertFault::Shape)
+            Err(MISSHAPEN)
         }
     }
 
@@ -71,7 +71,8 @@ impl Certificate {
     }
 
     /// The certificate that a text is. What is no TOML is `NotToml`, and what is another table than that
-    /// of a certificate is `Shape`.
+    /// of a certificate is `Shape`, with the first table that is wrong: the lists are read after the format, in the
+    /// order `reason`, `stream`, `bound`, `order`, each from its first table on.
     pub fn read(alloc: Global, text: &str) -> Result<Certificate, CertFault>
         ensures { Gives CertFault.Memory result (certificate_from text.now) }
     {
@@ -132,10 +133,10 @@ fn claims_of(alloc: Global, table: &Table) -> Result<Claims, CertFault>
     ensures { Gives CertFault.Memory result (claims_of (table_view table.now)) }
 {
     let format = needed::<ShortNumber>(alloc, table, "format")?;
-    let reasons = needed::<TableEntries<ReasonTable>>(alloc, table, "reason")?;
-    let streams = needed::<TableEntries<StreamTable>>(alloc, table, "stream")?;
-    let bounds = needed::<TableEntries<BoundTable>>(alloc, table, "bound")?;
-    let orders = needed::<TableEntries<OrderTable>>(alloc, table, "order")?;
+    let reasons = entries::<ReasonTable>(alloc, table, CertList::Reason)?;
+    let streams = entries::<StreamTable>(alloc, table, CertList::Stream)?;
+    let bounds = entries::<BoundTable>(alloc, table, CertList::Bound)?;
+    let orders = entries::<OrderTable>(alloc, table, CertList::Order)?;
     Ok(Claims {
         format,
         reasons,

@@ -1,15 +1,18 @@
 //! The entries of a certificate that are tables.
-ghost use Rattle.std.specs.Prelude.{◌≡◌, ◌+◌, Ok, OnOk};
+ghost use Rattle.std.specs.Prelude.{◌≡◌, ◌+◌, [], Ok, OnOk, map};
 ghost use Rattle.toml.specs.Data.{no_members, table as table_data};
-ghost use Rattle.toml.specs.View.{table_view};
-ghost use Rattle.metric_base.specs.Steps.{Gives};
+ghost use Rattle.toml.specs.View.{table_view, view};
+ghost use Rattle.metric_base.specs.Steps.{Gives, each, with_fault};
+ghost use Rattle.metric_cert.specs.Places.{at, list_name};
+ghost use Rattle.metric_cert.specs.Reading.{entries_as, entry_as, needed, table_as};
 ghost use Rattle.metric_cert.specs.Writing.{IsPrintable};
 
 use crate::entry::EntryKind;
-use crate::fault::{CertFault, shape_faults};
-use crate::lists::ListOf;
+use crate::fault::{CertFault, CertList, CertPlace, shape_faults};
+use crate::lists::values_of;
 use crate::tables::{empty_table, tabled};
-use metric_table::table_of;
+use metric_base::Items;
+use metric_table::{required, table_of};
 use std::alloc::{AllocError, Global};
 use std::marker::PhantomData;
 use toml::{Table, Value};
@@ -43,9 +46,6 @@ pub(crate) trait Fields {
 /// An entry that is a table with such fields.
 pub(crate) struct TableEntry<F>(PhantomData<F>);
 
-/// A list of such entries.
-pub(crate) type TableEntries<F> = ListOf<TableEntry<F>>;
-
 impl<F: Fields> EntryKind for TableEntry<F> {
     ghost use Rattle.std.specs.Prelude.{◌+◌};
     ghost use Rattle.metric_cert.specs.Reading.{table_as};
@@ -66,5 +66,55 @@ impl<F: Fields> EntryKind for TableEntry<F> {
         let mut table = empty_table(alloc);
         F::put(alloc, &mut table, entry)?;
         Ok(tabled(table))
+    }
+}
+
+/// The tables of a list that is needed. A fault of one of them is told with its number.
+#[tactic(auto, unfolding(crate::specs::Reading::needed, crate::specs::Reading::entries_as))]
+pub(crate) fn entries<F: Fields>(
+    alloc: Global,
+    table: &Table,
+    list: CertList,
+) -> Result<Items<F::Read>, CertFault>
+    ensures { Gives CertFault.Memory result
+        (needed (entries_as list F.step) (list_name list) (table_view table.now)) }
+{
+    let value = required(table, list.name(), &shape_faults())?;
+    let values = values_of(value)?;
+    read_entries::<F>(alloc, list, values)
+}
+
+fn read_entries<F: Fields>(
+    alloc: Global,
+    list: CertList,
+    values: &[Value],
+) -> Result<Items<F::Read>, CertFault>
+    ensures { Gives CertFault.Memory result
+        (each (entry_as list F.step) [] (map view values.now)) }
+{
+    let mut entries = Items::new(alloc);
+    for value in values {
+        let place = CertPlace::Entry {
+            list,
+            number: entries.len(),
+        };
+        let entry = read_entry::<F>(alloc, place, value)?;
+        entries.push(entry)?;
+    }
+    Ok(entries)
+}
+
+// The table that an entry is, or the fault of its place.
+fn read_entry<F: Fields>(
+    alloc: Global,
+    place: CertPlace,
+    value: &Value,
+) -> Result<F::Read, CertFault>
+    ensures { Gives CertFault.Memory result
+        (with_fault (at place) (table_as F.step (view value.now))) }
+{
+    match TableEntry::<F>::read(alloc, value) {
+        Ok(entry) => Ok(entry),
+        Err(fault) => Err(fault.at(place)),
     }
 }

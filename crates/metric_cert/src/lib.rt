@@ -21,7 +21,7 @@ pub use bound::InstrumentBound;
 pub use certificate::Certificate;
 pub use claims::Claims;
 pub use criteria::pattern_for;
-pub use fault::CertFault;
+pub use fault::{CertFault, CertList, CertPlace};
 pub use order::ReaderOrder;
 pub use reason::{Criterion, Evidence, SelectionReason};
 pub use stream::{By, StreamSets};

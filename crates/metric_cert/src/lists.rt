@@ -8,7 +8,7 @@ ghost use Rattle.metric_cert.specs.Reading.{values_of};
 ghost use Rattle.metric_cert.specs.Writing.{IsPrintable};
 
 use crate::entry::EntryKind;
-use crate::fault::CertFault;
+use crate::fault::{CertFault, MISSHAPEN};
 use metric_base::Items;
 use std::alloc::{AllocError, Global};
 use std::marker::PhantomData;
@@ -39,14 +39,15 @@ impl<E: EntryKind> EntryKind for ListOf<E> {
     }
 }
 
+/// The values of a list.
 #[tactic(auto, unfolding(crate::specs::Reading::values_of), using(crate::proofs::Written::value_laws))]
-fn values_of(value: &Value) -> Result<&[Value], CertFault>
+pub(crate) fn values_of(value: &Value) -> Result<&[Value], CertFault>
     ensures { MatchResult result (λ vs. values_of (view value.now) ≡ Ok (map view vs.now))
         (λ e. values_of (view value.now) ≡ Err e) }
 {
     match value.as_array() {
         Some(values) => Ok(values.as_slice()),
-        None => Err(CertFault::Shape),
+        None => Err(MISSHAPEN),
     }
 }
 

@@ -5,7 +5,7 @@ ghost use Rattle.toml.specs.View.{view};
 
 use crate::decimals::i128_of;
 use crate::entry::EntryKind;
-use crate::fault::{CertFault, shape_faults};
+use crate::fault::{CertFault, MISSHAPEN, shape_faults};
 use metric_table::{integer_of, text_of};
 use metric_text::u64_of;
 use std::alloc::{AllocError, Global};
@@ -27,7 +27,7 @@ impl EntryKind for ShortNumber {
     #[tactic(auto, unfolding(crate::specs::Reading::whole_of))]
     fn read(_alloc: Global, value: &Value) -> Result<u16, CertFault> {
         let number = integer_of(value, &shape_faults())?;
-        u16::try_from(number).map_err(|_| CertFault::Shape)
+        u16::try_from(number).map_err(|_| MISSHAPEN)
     }
 
     #[tactic(auto, using(crate::proofs::Written::number_laws))]
@@ -52,7 +52,7 @@ impl EntryKind for Number {
     #[tactic(auto, unfolding(crate::specs::Reading::whole_of))]
     fn read(_alloc: Global, value: &Value) -> Result<u32, CertFault> {
         let number = integer_of(value, &shape_faults())?;
-        u32::try_from(number).map_err(|_| CertFault::Shape)
+        u32::try_from(number).map_err(|_| MISSHAPEN)
     }
 
     #[tactic(auto, using(crate::proofs::Written::number_laws))]
@@ -76,7 +76,7 @@ impl EntryKind for Decimal {
     #[tactic(auto, unfolding(crate::specs::Reading::decimal_of))]
     fn read(_alloc: Global, value: &Value) -> Result<u64, CertFault> {
         let text = text_of(value, &shape_faults())?;
-        u64_of(text.as_bytes()).ok_or(CertFault::Shape)
+        u64_of(text.as_bytes()).ok_or(MISSHAPEN)
     }
 
     #[tactic(auto, using(crate::proofs::Written::number_laws))]
@@ -103,7 +103,7 @@ impl EntryKind for SignedDecimal {
     fn read(alloc: Global, value: &Value) -> Result<i128, CertFault> {
         let text = text_of(value, &shape_faults())?;
         let number = i128_of(alloc, text)?;
-        number.ok_or(CertFault::Shape)
+        number.ok_or(MISSHAPEN)
     }
 
     #[tactic(auto, using(crate::proofs::Written::number_laws))]

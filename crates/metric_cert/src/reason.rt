@@ -8,7 +8,7 @@ ghost use Rattle.metric_cert.specs.Reading.{shape_faults};
 ghost use Rattle.metric_cert.specs.Reasons.{PutsEvidence, evidence_of, one_of, reason_fields};
 
 use crate::entry::EntryKind;
-use crate::fault::{CertFault, shape_faults};
+use crate::fault::{CertFault, MISSHAPEN, shape_faults};
 use crate::fields::Fields;
 use crate::lists::ListOf;
 use crate::numbers::{Number, ShortNumber};
@@ -102,7 +102,7 @@ impl EntryKind for CriterionWord {
     #[tactic(auto, unfolding(crate::specs::Names::criterion_of))]
     fn read(_alloc: Global, value: &Value) -> Result<Criterion, CertFault> {
         let text = text_of(value, &shape_faults())?;
-        Criterion::named(text).ok_or(CertFault::Shape)
+        Criterion::named(text).ok_or(MISSHAPEN)
     }
 
     fn write(alloc: Global, entry: &Criterion) -> Result<Value, AllocError> {
@@ -160,7 +160,7 @@ fn evidence_of(alloc: Global, table: &Table) -> Result<Evidence, CertFault>
     let takes = optional::<Takes>(alloc, table, "takes")?;
     let rows = optional::<ListOf<Takes>>(alloc, table, "rows")?;
     let miss = optional::<CriterionWord>(alloc, table, "miss")?;
-    one_of(takes, rows, miss).ok_or(CertFault::Shape)
+    one_of(takes, rows, miss).ok_or(MISSHAPEN)
 }
 
 fn one_of(

@@ -8,7 +8,7 @@ ghost use Rattle.metric_cert.specs.Reading.{shape_faults};
 ghost use Rattle.metric_cert.specs.Streams.{PutsList, by_of, by_with, stream_fields};
 
 use crate::entry::EntryKind;
-use crate::fault::{CertFault, shape_faults};
+use crate::fault::{CertFault, MISSHAPEN, shape_faults};
 use crate::fields::Fields;
 use crate::lists::{ListOf, listed, write_all};
 use crate::numbers::{Number, ShortNumber};
@@ -110,7 +110,7 @@ impl EntryKind for ByWord {
     #[tactic(auto, unfolding(crate::specs::Names::word_of))]
     fn read(_alloc: Global, value: &Value) -> Result<BoundWord, CertFault> {
         let text = text_of(value, &shape_faults())?;
-        BoundWord::named(text).ok_or(CertFault::Shape)
+        BoundWord::named(text).ok_or(MISSHAPEN)
     }
 
     fn write(alloc: Global, entry: &BoundWord) -> Result<Value, AllocError> {
@@ -137,7 +137,7 @@ impl EntryKind for SetKeyEntry {
     #[tactic(auto, unfolding(crate::specs::Streams::set_key_of))]
     fn read(alloc: Global, value: &Value) -> Result<SetKey, CertFault> {
         let set = ListOf::<ShortNumber>::read(alloc, value)?;
-        set_key_of(set.as_slice()).ok_or(CertFault::Shape)
+        set_key_of(set.as_slice()).ok_or(MISSHAPEN)
     }
 
     fn write(alloc: Global, entry: &SetKey) -> Result<Value, AllocError> {
@@ -201,7 +201,7 @@ fn by_of(alloc: Global, table: &Table) -> Result<By, CertFault>
 {
     let word = needed::<ByWord>(alloc, table, "by")?;
     let list = optional::<SetKeys>(alloc, table, "list")?;
-    by_with(word, list).ok_or(CertFault::Shape)
+    by_with(word, list).ok_or(MISSHAPEN)
 }
 
 // What bounds a stream: the word `list` comes with a list, and no other word does.

@@ -9,6 +9,9 @@ use Rattle.metric_catalogue.specs.declared.fault.CatalogueFault.{CatalogueFault}
 use Rattle.metric_catalogue.specs.declared.fault.CatalogueFault.TheVariants as of_catalogue
 use Rattle.metric_catalogue.specs.declared.fault.CatalogueSpot.{CatalogueSpot}
 use Rattle.metric_catalogue.specs.FieldWords.{field_name as catalogue_field}
+use Rattle.metric_cert.specs.declared.fault.CertFault.{CertFault}
+use Rattle.metric_cert.specs.declared.fault.CertFault.TheVariants as of_certificate
+use Rattle.metric_cert.specs.declared.fault.CertPlace.TheVariants as places
 use Rattle.metric_views.specs.declared.fault.ConfigSpot.{ConfigSpot}
 use Rattle.metric_views.specs.declared.fault.ViewDefect.{ViewDefect}
 use Rattle.metric_views.specs.declared.fault.ViewDefect.TheVariants as config
@@ -41,8 +44,9 @@ after_all place (byte ∷ bytes) = after_all (after place byte) bytes
 abbrev pub start : Position
 start = record { line = 1; column = 1 }
 
--- # where a fault stands (profile) [Marks, StandsInCatalogue, StandsInConfig]
--- At a place of the text at which the name of its field stands.
+-- # where a fault stands (profile) [Marks, StandsInCatalogue, StandsInConfig, StandsInCertificate]
+-- At a place of the text at which the name of its field stands; of a table of a certificate, at a place of
+-- the text.
 pub record Marks (text word : List ℕ) (position : Position) : Type 0 where
   pub before : ℕ
   pub found : starts_with nat_eq (drop before text) word ≡ true
@@ -80,6 +84,7 @@ word_of (tables.Config defect spot) = config_word defect spot
 abbrev pub IsMarked : List ℕ → Spot → Option Position → Type 0
 IsMarked text spots.Text position = Unit {0}
 IsMarked text (spots.Table fault) position = IfSome position (Marks text (word_of fault))
+IsMarked text (spots.Entry list number) position = IfSome position (Marks text [])
 IsMarked text (spots.Nowhere words) position = position ≡ None
 
 abbrev pub StandsInCatalogue : List ℕ → CatalogueFault → Option Position → Type 0
@@ -93,3 +98,10 @@ StandsInConfig text of_config.NotToml position = Unit {0}
 StandsInConfig text (of_config.At defect spot) position =
     IfSome position (Marks text (config_word defect spot))
 StandsInConfig text of_config.Memory position = position ≡ None
+
+abbrev pub StandsInCertificate : List ℕ → CertFault → Option Position → Type 0
+StandsInCertificate text of_certificate.NotToml position = Unit {0}
+StandsInCertificate text (of_certificate.Shape places.Top) position = position ≡ None
+StandsInCertificate text (of_certificate.Shape (places.Entry list number)) position =
+    IfSome position (Marks text [])
+StandsInCertificate text of_certificate.Memory position = position ≡ None

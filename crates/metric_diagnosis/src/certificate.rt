@@ -1,17 +1,18 @@
 //! The faults of a certificate.
 ghost use Rattle.std.specs.Prelude.{◌≡◌, IfOk, None};
+ghost use Rattle.metric_diagnosis.specs.Marks.{StandsInCertificate};
 
 use crate::diagnosis::Diagnosis;
 use crate::sources::NamedText;
 use crate::spot::{Spot, diagnose};
 use crate::toml_fault::{MEMORY, want_of_memory};
-use metric_cert::CertFault;
+use metric_cert::{CertFault, CertPlace};
 use metric_check::{CheckFault, ClaimFault, ClaimPlace};
 use std::alloc::{AllocError, Global};
 use std::fmt;
 
-/// What a person is told of a fault of a certificate's text. It has a position only where the text is no TOML: where
-/// that breaks off. Fails only where memory is refused.
+/// What a person is told of a fault of a certificate's text: where it breaks off, or the first table that is none of a
+/// certificate. Fails only where memory is refused.
 pub fn diagnose_certificate<'t>(
     alloc: Global,
     source: NamedText<'t>,
@@ -19,10 +20,13 @@ pub fn diagnose_certificate<'t>(
 ) -> Result<Diagnosis<'t, CertFault>, AllocError>
     ensures fault { IfOk result (λ told. told.fault ≡ fault) }
     ensures file { IfOk result (λ told. told.file.now ≡ source.entry.name.now) }
+    ensures place { IfOk result (λ told.
+        StandsInCertificate source.entry.text.now fault told.position) }
 {
     let spot = match fault {
         CertFault::NotToml => Spot::Text,
-        CertFault::Shape => Spot::Nowhere(SHAPE),
+        CertFault::Shape(CertPlace::Top) => Spot::Nowhere(SHAPE),
+        CertFault::Shape(CertPlace::Entry { list, number }) => Spot::Entry(list, number),
         CertFault::Memory => Spot::Nowhere(MEMORY),
     };
     diagnose(alloc, source, fault, spot)

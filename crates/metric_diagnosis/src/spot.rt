@@ -1,5 +1,5 @@
 //! A fault of one text, told with where it stands.
-ghost use Rattle.std.specs.Prelude.{◌≡◌, IfOk, IfSome};
+ghost use Rattle.std.specs.Prelude.{◌≡◌, [], IfOk, IfSome};
 ghost use Rattle.metric_diagnosis.specs.Marks.{IsMarked, Marks, catalogue_word, config_word, word_of};
 
 use crate::catalogue_cause::catalogue_cause;
@@ -12,6 +12,7 @@ use crate::toml_fault::{told_of_error, told_of_toml};
 use crate::way::Way;
 use metric_advice::Position;
 use metric_catalogue::{CatalogueDefect, CatalogueSpot};
+use metric_cert::CertList;
 use metric_views::{ConfigSpot, ViewDefect};
 use std::alloc::{AllocError, Global};
 use toml::Table;
@@ -23,6 +24,8 @@ pub(crate) enum Spot {
     Text,
     // A field of it.
     Table(TableFault),
+    // A table of a list of a certificate, by its number.
+    Entry(CertList, usize),
     // No place in it. These words tell the fault.
     Nowhere(&'static str),
 }
@@ -56,8 +59,30 @@ fn told_of(alloc: Global, text: &str, spot: Spot) -> Result<(Option<Position>, S
     match spot {
         Spot::Text => told_of_toml(alloc, text),
         Spot::Table(fault) => told_of_table(alloc, text, fault),
+        Spot::Entry(list, number) => told_of_entry(alloc, text, list, number),
         Spot::Nowhere(words) => Ok((None, String::from_str(alloc, words)?)),
     }
+}
+
+// Where a table of a certificate stands whose shape is wrong, and what is told of it.
+fn told_of_entry(
+    alloc: Global,
+    text: &str,
+    list: CertList,
+    number: usize,
+) -> Result<(Option<Position>, String), AllocError>
+    ensures { IfOk result (λ told. IfSome told.0 (Marks text.now [])) }
+{
+    let name = list.name();
+    let words = format!(in alloc;
+        "{name} {number} is not one of a certificate: it was altered, or is of another format; make it anew"
+    )?;
+    let way = Way::top().then(name, Some(number));
+    let position = match find(alloc, text, way)? {
+        Some(start) => marked(text.as_bytes(), start, b""),
+        None => None,
+    };
+    Ok((position, words))
 }
 
 // Where the field of a fault stands, and the cause in words.

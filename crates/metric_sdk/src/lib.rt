@@ -142,6 +142,8 @@ pub use metric_catalogue::CatalogueField;
 pub use metric_catalogue::CataloguePlace;
 pub use metric_catalogue::CatalogueSpot;
 pub use metric_cert::CertFault;
+pub use metric_cert::CertList;
+pub use metric_cert::CertPlace;
 pub use metric_cert::Certificate;
 pub use metric_check::ClaimFault;
 pub use metric_check::ClaimPlace;

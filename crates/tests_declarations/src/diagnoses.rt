@@ -3,7 +3,7 @@ use crate::asserted::{OrFail, assert_equal};
 use crate::declared::{Declared, read_both};
 use metric_advice::lint;
 use metric_catalogue::Catalogue;
-use metric_cert::CertFault;
+use metric_cert::Certificate;
 use metric_check::{CheckFault, ClaimFault, ClaimPlace};
 use metric_diagnosis::{
     NamedText, Pair, diagnose_catalogue, diagnose_certificate, diagnose_check, diagnose_config,
@@ -796,9 +796,64 @@ fn faults_of_certificates_are_told(rt: HostRuntime) {
         let told = format!(in alloc; "{told}").or_fail(&rt);
         assert_equal(&rt, told.as_str(), *wanted);
     }
-    let told = diagnose_certificate(alloc, NamedText { name, text }, CertFault::Shape).or_fail(&rt);
-    let wanted =
-        "w.toml: the tables are not those of a certificate: it was altered, or is of another format; make it anew";
-    let told = format!(in alloc; "{told}").or_fail(&rt);
-    assert_equal(&rt, told.as_str(), wanted);
+}
+
+// Texts that may be certificates, and what is told of them.
+const CERTIFICATES: &[(&str, &str)] = &[
+    (
+        "format = 1\nreason = []\nstream = []\nbound = []\norder = []",
+        "right",
+    ),
+    (
+        "format = 1",
+        ": the tables are not those of a certificate: it was altered, or is of another format; make it anew",
+    ),
+    (
+        "format = 3\nreason = []\nstream = []\nbound = []\norder = []",
+        ": the tables are not those of a certificate: it was altered, or is of another format; make it anew",
+    ),
+    (
+        "format = 1\nreason = {}\nstream = []\nbound = []\norder = []",
+        ": the tables are not those of a certificate: it was altered, or is of another format; make it anew",
+    ),
+    (
+        "bound = []\nformat = 1\norder = []\nstream = []\n[[reason]]\nview = 0\ninstrument = 0\nmiss = 'meter_name'\n[[reason]]\nview = 0\ninstrument = 1\nmiss = 'meter'",
+        ":9:1: reason 1 is not one of a certificate: it was altered, or is of another format; make it anew",
+    ),
+    (
+        "bound = []\nformat = 1\norder = []\nreason = []\n[[stream]]\nreader = 0\ninstrument = 0\nby = 'list'\nsets = 1",
+        ":5:1: stream 0 is not one of a certificate: it was altered, or is of another format; make it anew",
+    ),
+    (
+        "format = 1\nreason = []\nstream = []\norder = []\nbound = [{ instrument = 0, total = '1', amount = '0', low = '0', high = '0' }, { instrument = 1 }]",
+        ":5:80: bound 1 is not one of a certificate: it was altered, or is of another format; make it anew",
+    ),
+    (
+        "format = 1\nreason = []\nstream = []\nbound = []\norder = [5]",
+        ":5:10: order 0 is not one of a certificate: it was altered, or is of another format; make it anew",
+    ),
+    (
+        "format = 1\norder = [5]\nbound = [5]\nstream = [5]\nreason = [5]",
+        ":5:11: reason 0 is not one of a certificate: it was altered, or is of another format; make it anew",
+    ),
+];
+
+// What is told of the text of a certificate.
+fn of_certificate<R: Abort>(rt: &R, alloc: Global, text: &str) -> String {
+    let name = "certificate.toml";
+    match Certificate::read(alloc, text) {
+        Ok(_) => String::from_str(alloc, "right").or_fail(rt),
+        Err(fault) => {
+            let told = diagnose_certificate(alloc, NamedText { name, text }, fault).or_fail(rt);
+            format!(in alloc; "{told}").or_fail(rt)
+        }
+    }
+}
+
+#[test]
+fn texts_that_are_no_certificates_are_told(rt: HostRuntime) {
+    for (text, wanted) in CERTIFICATES {
+        let told = of_certificate(&rt, rt.alloc(), text);
+        assert_equal(&rt, after(told.as_str(), "certificate.toml"), *wanted);
+    }
 }

@@ -4,14 +4,14 @@ use Rattle.metric_cert.proofs.lists.read_all.Goals as goal
 
 pub loop-value-preserved : goal.loop-value-preserved
 loop-value-preserved g c =
-    next_read g.E.EntryKind.step c.args.values.now c.loop-value.value-index c.value-item.result c.loop-value.entries _ c.in_ok-entry.entry _ c.loop-value-test.true c.value-item.is
+    next_read (λ _ d. g.E.EntryKind.step d) c.args.values.now c.loop-value.value-index c.value-item.result c.loop-value.entries _ c.in_ok-entry.entry _ c.loop-value-test.true c.value-item.is
     c.in_ok-entry.ensures c.in_ok-push.ensures.ok c.loop-value.invariant
 
 pub returns-in_err-entry : goal.returns-in_err-entry
 returns-in_err-entry g c =
-    fault_given g.E.EntryKind.step c.args.values.now c.loop-value.value-index c.value-item.result c.loop-value.entries c.from_residual.result _ c.in_err-entry.field-0.0
+    fault_given (λ _ d. g.E.EntryKind.step d) c.args.values.now c.loop-value.value-index c.value-item.result c.loop-value.entries c.from_residual.result _ c.in_err-entry.field-0.0
     c.loop-value-test.true c.value-item.is c.from_residual.ensures.1 c.in_err-entry.ensures c.loop-value.invariant
 
 pub returns : goal.returns
 returns g c =
-    all_read g.E.EntryKind.step c.args.values.now c.loop-value.value-index c.loop-value.entries _ c.loop-value-test.false c.loop-value.invariant
+    all_read (λ _ d. g.E.EntryKind.step d) c.args.values.now c.loop-value.value-index c.loop-value.entries _ c.loop-value-test.false c.loop-value.invariant
