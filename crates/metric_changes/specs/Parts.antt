@@ -25,11 +25,14 @@ use Rattle.metric_changes.specs.declared.change.StreamPart.TheVariants as parts
 abbrev pub when : Bool → Change → List Change
 when holds change = if holds then change ∷ [] else []
 
+-- both are sums, last values or histograms
 abbrev pub is_alike : StreamAggregation → StreamAggregation → Bool
 is_alike aggregations.Sum aggregations.Sum = true
+is_alike aggregations.Sum other = false
 is_alike aggregations.LastValue aggregations.LastValue = true
+is_alike aggregations.LastValue other = false
 is_alike (aggregations.Histogram boundaries) (aggregations.Histogram others) = true
-is_alike one other = false
+is_alike (aggregations.Histogram boundaries) other = false
 
 -- both are histograms, with other boundaries
 abbrev pub has_other_boundaries : StreamAggregation → StreamAggregation → Bool

@@ -106,11 +106,10 @@ fn are_others(old: &str, new: &str) -> bool
 fn is_alike(old: &StreamAggregation, new: &StreamAggregation) -> bool
     ensures { result ≡ is_alike old.now new.now }
 {
-    match (old, new) {
-        (StreamAggregation::Sum, StreamAggregation::Sum) => true,
-        (StreamAggregation::LastValue, StreamAggregation::LastValue) => true,
-        (StreamAggregation::Histogram(_), StreamAggregation::Histogram(_)) => true,
-        _ => false,
+    match old {
+        StreamAggregation::Sum => matches!(new, StreamAggregation::Sum),
+        StreamAggregation::LastValue => matches!(new, StreamAggregation::LastValue),
+        StreamAggregation::Histogram(_) => matches!(new, StreamAggregation::Histogram(_)),
     }
 }
 
