@@ -327,7 +327,7 @@ pub(crate) fn spelled<F: Drop>(
     format!(in alloc; "{told}\n{excerpt}")
 }
 
-// The line of the script at which it is none.
+// The line of the script at which it is none; of one that no line starts, no place.
 fn told_script(
     alloc: Global,
     files: &Files,
@@ -336,7 +336,20 @@ fn told_script(
 ) -> Result<String, AllocError> {
     let path = path_of(files, Role::Script);
     let line = line.saturating_sub(lines_before(&texts.parts));
+    if line > lines_of(&texts.script) {
+        return format!(in alloc;
+            "{path}: no start line: a script begins with one, such as 'start 0'\n"
+        );
+    }
     format!(in alloc; "{path}:{line}:1: this line is no event, or none that may stand here\n")
+}
+
+// How many lines a script has.
+fn lines_of(script: &Option<Text>) -> u64 {
+    match script {
+        Some(text) => text.as_str().lines().count() as u64,
+        None => 0,
+    }
 }
 
 /// A fault as `metric_kit` tells it.
