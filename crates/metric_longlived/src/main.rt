@@ -5,12 +5,12 @@
 
 mod ledger;
 
-use anyhow::{Context, Result, bail, ensure};
+use anyhow::{Context, Result, ensure};
 use ledger::{Device, Ledger};
 use metric_sdk::{
-    Asking, Attr, ClockTicker, Collector, Counter, MeterProvider, OpenPeriodic, Plan, Queued,
-    Recorder, RunningCounts, Runs, StopFlag, Totals, counter, now, open, roll_over_all,
-    shutdown_all,
+    AnySeat, Asking, Attr, ClockTicker, Collector, Counter, MeterProvider, OpenPeriodic, Plan,
+    Queued, Recorder, RunningCounts, Runs, StopFlag, Totals, counter, headrooms, now, open,
+    roll_over_all, shutdown_all,
 };
 use std::alloc::Global;
 use std::sync::Wait;
@@ -69,6 +69,7 @@ fn main(rt: HostRuntime) -> Result<()> {
     let mut queue = Queued::new(alloc, Ledger::new(&device), 1_000);
     let start = now(&rt)?;
     let (provider, recorders, readers) = open(&rt, alloc, CATALOGUE, CONFIG, start, &mut runs)?;
+    tell_headroom(&rt, alloc, provider.plan())?;
     let first = Service {
         provider,
         recorders,
@@ -95,9 +96,18 @@ fn main(rt: HostRuntime) -> Result<()> {
     Ok(())
 }
 
+// How many recordings the budgets and the spare allow in a run, and up to how many they could be raised.
+fn tell_headroom<R: Print>(rt: &R, alloc: Global, plan: &Plan) -> Result<()> {
+    for headroom in headrooms(alloc, plan.catalogue(), plan.config())?.as_slice() {
+        let (total, most) = (headroom.total, headroom.most);
+        println!(rt; "recordings in a run: {total}, safe up to {most}")?;
+    }
+    Ok(())
+}
+
 // One run, and then the next one begins, also while the device is out: the queue keeps what it has. What the run came
 // to is told.
-fn live_on<R: Threads + Wait + Clock + Sync + AllocGlobal>(
+fn live_on<R: Threads + Wait + Clock + Print + Sync + AllocGlobal>(
     rt: &R,
     service: Service,
     queue: &mut Queue<'_>,
@@ -109,13 +119,8 @@ fn live_on<R: Threads + Wait + Clock + Sync + AllocGlobal>(
         readers,
     } = live(rt, service, queue)?;
     let (alloc, moment) = (rt.alloc(), now(rt)?);
-    let next = match roll_over_all(rt, alloc, provider, recorders, readers, queue, moment, run) {
-        Ok(next) => next,
-        Err(left) => match left.into_next() {
-            Ok(next) => next,
-            Err(left) => bail!("{left}"),
-        },
-    };
+    let next = roll_over_all(rt, alloc, provider, recorders, readers, queue, moment, run);
+    let next = next.or_else(|left| left.into_next())?;
     let recorded = sum_of(&next.totals);
     let service = Service {
         provider: next.provider,
@@ -126,7 +131,7 @@ fn live_on<R: Threads + Wait + Clock + Sync + AllocGlobal>(
 }
 
 // The last run. What it came to is told; the queue tries once more what it keeps.
-fn live_to_end<R: Threads + Wait + Clock + Sync + AllocGlobal>(
+fn live_to_end<R: Threads + Wait + Clock + Print + Sync + AllocGlobal>(
     rt: &R,
     service: Service,
     queue: &mut Queue<'_>,
@@ -137,10 +142,8 @@ fn live_to_end<R: Threads + Wait + Clock + Sync + AllocGlobal>(
         readers,
     } = live(rt, service, queue)?;
     let (alloc, moment) = (rt.alloc(), now(rt)?);
-    match shutdown_all(rt, alloc, provider, recorders, readers, queue, moment) {
-        Ok(totals) => Ok(sum_of(&totals)),
-        Err(left) => bail!("{left}"),
-    }
+    let totals = shutdown_all(rt, alloc, provider, recorders, readers, queue, moment)?;
+    Ok(sum_of(&totals))
 }
 
 // What was recorded in a run.
@@ -153,7 +156,7 @@ fn sum_of(totals: &Totals) -> i128 {
 
 // One run: the workers record, while the reader exports every millisecond, and a last time when they have ended. Its
 // seat is there still where that was refused.
-fn live<R: Threads + Wait + Clock + Sync + AllocGlobal>(
+fn live<R: Threads + Wait + Clock + Print + Sync + AllocGlobal>(
     rt: &R,
     service: Service,
     queue: &mut Queue<'_>,
@@ -185,11 +188,30 @@ fn live<R: Threads + Wait + Clock + Sync + AllocGlobal>(
     if let Some(seat) = kept {
         readers.push(seat)?;
     }
+    tell_left(rt, &provider, &pages, &workers)?;
     Ok(Service {
         provider,
         recorders: seats_of(rt.alloc(), workers)?,
         readers,
     })
+}
+
+// What is left of a run: how many recordings the workers may still make, how many can still be granted, and how many
+// workers found too few of these.
+fn tell_left<R: Wait + Print>(
+    rt: &R,
+    provider: &MeterProvider,
+    pages: &Counter,
+    workers: &[Asking],
+) -> Result<()> {
+    let (mut room, mut wanting) = (0u64, 0u64);
+    for worker in workers {
+        room = room.saturating_add(worker.seat().room(rt, provider, pages.number())?);
+        wanting = wanting.saturating_add(u64::from(worker.wants_next_run()));
+    }
+    let spare = provider.spare_left(rt, pages.number())?;
+    println!(rt; "left: room for {room}, spare for {spare}, too little for {wanting} workers")?;
+    Ok(())
 }
 
 // Seats that ask for three recordings where their budget ends.
@@ -213,7 +235,8 @@ fn seats_of(alloc: Global, workers: Vec<Asking>) -> Result<Vec<Recorder>> {
 
 // Does all jobs. Metrics stop no work: what is refused is missing in the totals.
 fn do_jobs<R: Wait>(rt: &R, provider: &MeterProvider, pages: &Counter, worker: &mut Asking) {
+    let mut at = worker.at(rt, provider);
     for (kind, count) in JOBS {
-        let _ = pages.add(rt, provider, worker, &[Attr::text("kind", kind)], *count);
+        let _ = at.add(pages, &[Attr::text("kind", kind)], *count);
     }
 }
