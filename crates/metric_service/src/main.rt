@@ -12,11 +12,13 @@ use anyhow::{Context, Result, bail, ensure};
 use json::Times;
 use json_lines::JsonLines;
 use metric_sdk::{
-    Attr, BoundCounter, ClockTicker, Collector, Counted, Counter, Gauge, Histogram, MeterProvider,
-    MetricExporter, OtlpLines, Periodic, Plan, Recorder, Refusal, Resource, Runs, ServiceFault,
-    StdSink, StopFlag, TextExporter, UpDownCounter, counter, expose_to_otlp, gauge, histogram, now,
-    open, take_reader, up_down_counter,
+    AnySeat, Attr, BoundCounter, ClockTicker, Collector, Counted, Counter, Gauge, Histogram,
+    MeterProvider, MetricExporter, NamedText, OtlpLines, Periodic, Plan, Recorder, Resource, Runs,
+    ServiceFault, SetupFault, StdSink, StopFlag, TextExporter, UpDownCounter, counter,
+    diagnose_catalogue, diagnose_config, expose_to_otlp, gauge, histogram, now, open, take_reader,
+    up_down_counter,
 };
+use std::alloc::Global;
 use std::env;
 use std::fs::{self, File, OpenOptions};
 use std::io::Stdout;
@@ -64,18 +66,19 @@ impl Shop {
     // Serves each request whose turn it is. Metrics stop no service: the seat counts what is refused.
     fn serve<R: Wait>(&self, rt: &R, provider: &MeterProvider, (seat, served): &mut Worker) {
         let number = seat.seat().number();
+        let mut at = seat.at(rt, provider);
         for (route, status, took, size) in SERVED[number as usize % SERVED.len()] {
             let (items, errors) = (i64::from(status == 200), i64::from(status == 500));
             let route = Attr::text("route", route);
             let status = Attr::whole("status", status);
             let worker = Attr::whole("worker", i64::from(number));
-            let _ = self.requests.add(rt, provider, seat, &[route, status], 1);
-            let _ = self.errors.add(rt, provider, seat, errors);
-            let _ = self.duration.record(rt, provider, seat, &[route], took);
-            let _ = self.size.record(rt, provider, seat, &[route, status], size);
-            let _ = self.latest.record(rt, provider, seat, &[worker], took);
-            let _ = self.sold.add(rt, provider, seat, &[route], items);
-            let _ = self.stock.add(rt, provider, seat, &[], -items);
+            let _ = at.add(&self.requests, &[route, status], 1);
+            let _ = at.add_bound(&self.errors, errors);
+            let _ = at.record(&self.duration, &[route], took);
+            let _ = at.record(&self.size, &[route, status], size);
+            let _ = at.record(&self.latest, &[worker], took);
+            let _ = at.add(&self.sold, &[route], items);
+            let _ = at.add(&self.stock, &[], -items);
             *served = served.saturating_add(1);
         }
     }
@@ -86,30 +89,64 @@ fn main(rt: HostRuntime) -> Result<()> {
     let [_, catalogue, config, file] = words.as_slice() else {
         bail!("usage: metric_service CATALOGUE CONFIG FILE");
     };
-    let catalogue = fs::read_to_string(&rt, catalogue.as_str())?;
-    let config = fs::read_to_string(&rt, config.as_str())?;
+    let (catalogue_text, config_text) = (
+        fs::read_to_string(&rt, catalogue.as_str())?,
+        fs::read_to_string(&rt, config.as_str())?,
+    );
+    let catalogue = NamedText {
+        name: catalogue.as_str(),
+        text: catalogue_text.as_str(),
+    };
+    let config = NamedText {
+        name: config.as_str(),
+        text: config_text.as_str(),
+    };
     let file = added_to().open(&rt, file.as_str())?;
     let service = Attr::text("service.name", "shop");
     let resource = Resource::new(rt.alloc(), &[service])?;
-    let (start, mut runs) = (now(&rt)?, Runs::new());
-    let (provider, recorders, readers) = open(
-        &rt,
-        rt.alloc(),
-        &catalogue,
-        &config,
-        start,
-        &mut runs,
-    )?;
-    let mut seats = Vec::with_capacity(rt.alloc(), recorders.len())?;
+    let mut runs = Runs::new();
+    let opened = opened(&rt, rt.alloc(), catalogue, config, &mut runs)?;
+    let (provider, recorders, readers) = opened;
     let lines = TextExporter::of(OtlpLines::new(resource), StdSink::new(file));
     // What takes these lines stamps each one.
     let own = JsonLines::new(StdSink::new(rt.stdout()), Times::LeftOut);
     let (workers, failed) = serve(&rt, &provider, recorders, readers, lines, own)?;
-    let (served, refused) = counted(&workers);
+    settle(&rt, rt.alloc(), provider, workers)?;
+    println!(rt; "failed exports by reader: {failed:?}")?;
+    Ok(())
+}
+
+// Opens a catalogue and a config, or tells what is wrong with one of them, with its line and column.
+fn opened<R: Wait + Clock>(
+    rt: &R,
+    alloc: Global,
+    catalogue: NamedText<'_>,
+    config: NamedText<'_>,
+    runs: &mut Runs,
+) -> Result<(MeterProvider, Vec<Recorder>, Vec<Collector>)> {
+    match open(rt, alloc, catalogue.text, config.text, now(rt)?, runs) {
+        Ok(opened) => Ok(opened),
+        Err(SetupFault::Catalogue(fault)) => {
+            bail!("{}", diagnose_catalogue(alloc, catalogue, fault)?)
+        }
+        Err(SetupFault::Config(fault)) => bail!("{}", diagnose_config(alloc, config, fault)?),
+        Err(fault) => bail!("{fault}"),
+    }
+}
+
+// Ends the service, and tells what each instrument came to. Fails where that is not what the workers counted.
+fn settle<R: Wait + Print>(
+    rt: &R,
+    alloc: Global,
+    provider: MeterProvider,
+    workers: Vec<Worker>,
+) -> Result<()> {
+    let (served, refused) = counted(alloc, &workers)?;
+    let mut seats = Vec::with_capacity(alloc, workers.len())?;
     for (seat, _) in workers {
         seats.push(seat.into_seat())?;
     }
-    let ended = provider.finish_keeping(&rt, rt.alloc(), seats);
+    let ended = provider.finish_keeping(rt, alloc, seats);
     let ended = ended.map_err(ServiceFault::from)?;
     let (instruments, mut same) = (ended.plan.catalogue().instruments(), true);
     let totals = ended.totals.instruments.iter().zip(refused);
@@ -118,23 +155,23 @@ fn main(rt: HostRuntime) -> Result<()> {
         println!(rt; "{name}: {count} recordings, sum {sum}, {refused} refused")?;
         same = same && count.saturating_add(refused) == served;
     }
-    println!(rt; "requests: {served}, failed exports by reader: {failed:?}")?;
+    println!(rt; "requests: {served}")?;
     ensure!(same, "the totals are not what the workers counted");
     Ok(())
 }
 
-// How many requests were served, and how many recordings of each instrument nobody had declared.
-fn counted(workers: &[Worker]) -> (u64, [u64; 7]) {
+// How many requests were served, and how many recordings of each instrument were refused, for whatever reason.
+fn counted(alloc: Global, workers: &[Worker]) -> Result<(u64, [u64; 7])> {
     let (mut served, mut refused) = (0u64, [0u64; 7]);
     for (seat, own) in workers {
-        for (number, refused) in (0..7).zip(&mut refused) {
-            let values = seat.refused(number, Refusal::UnknownValue);
-            let combinations = seat.refused(number, Refusal::Combination);
-            *refused = refused.saturating_add(values).saturating_add(combinations);
+        for refusal in seat.refusals(alloc)? {
+            if let Some(count) = refused.get_mut(refusal.instrument as usize) {
+                *count = count.saturating_add(refusal.count);
+            }
         }
         served = served.saturating_add(*own);
     }
-    (served, refused)
+    Ok((served, refused))
 }
 
 // How a file is opened to which lines are added.
