@@ -15,8 +15,8 @@ use metric_sdk::{
     AnySeat, Attr, BoundCounter, ClockTicker, Collector, Counted, Counter, Gauge, Histogram,
     MeterProvider, MetricExporter, NamedText, OtlpLines, Periodic, Plan, Recorder, Resource, Runs,
     ServiceFault, SetupFault, StdSink, StopFlag, TextExporter, UpDownCounter, counter,
-    diagnose_catalogue, diagnose_config, expose_to_otlp, gauge, histogram, now, open, take_reader,
-    up_down_counter,
+    diagnose_catalogue, diagnose_config, expose_to_otlp, gauge, histogram, now, open_with_lanes,
+    take_reader, up_down_counter,
 };
 use std::alloc::Global;
 use std::env;
@@ -34,6 +34,9 @@ const SERVED: [[(&str, i64, i64, i64); 2]; 4] = [
     [("/pay", 500, 1_200, 300), ("/cart", 500, 7, 300)],
     [("/pay", 200, 80, 700), ("/pay", 200, 95, 700)],
 ];
+
+// How many lanes an instrument may have: one for each worker, so that none waits for another.
+const LANES: u32 = 4;
 
 // The seat of a worker, which counts what it is refused, and how many requests the worker has served.
 type Worker = (Counted, u64);
@@ -124,7 +127,8 @@ fn opened<R: Wait + Clock>(
     config: NamedText<'_>,
     runs: &mut Runs,
 ) -> Result<(MeterProvider, Vec<Recorder>, Vec<Collector>)> {
-    match open(rt, alloc, catalogue.text, config.text, now(rt)?, runs) {
+    let (first, second) = (catalogue.text, config.text);
+    match open_with_lanes(rt, alloc, first, second, LANES, now(rt)?, runs) {
         Ok(opened) => Ok(opened),
         Err(SetupFault::Catalogue(fault)) => {
             bail!("{}", diagnose_catalogue(alloc, catalogue, fault)?)
