@@ -107,7 +107,7 @@ fn soak<R: Threads + Wait + Clock + Print + Sync>(
         }
     }
     println!(rt;
-        "{} recorders and 2 readers, at most {} lanes",
+        "{} recorders and 2 readers; lanes: {} at most",
         setup.recorders, setup.lanes
     )?;
     print_figures(rt, "marked", &marked)?;
