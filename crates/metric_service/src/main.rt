@@ -26,9 +26,11 @@ use std::sync::Wait;
 use std::thread::{Threads, for_each_mut, join};
 use std::time::Clock;
 
-// Pretended requests: the route, the status, milliseconds and bytes. No route /admin is declared, and no status 500 for
-// /cart.
-const SERVED: [[(&str, i64, i64, i64); 2]; 4] = [
+// A request: the route, the status, milliseconds and bytes.
+type Request = (&'static str, i64, i64, i64);
+
+// Pretended requests. No route /admin is declared, and no status 500 for /cart.
+const SERVED: [[Request; 2]; 4] = [
     [("/", 200, 3, 12_000), ("/", 404, 1, 90)],
     [("/cart", 200, 12, 4_500), ("/admin", 404, 1, 90)],
     [("/pay", 500, 1_200, 300), ("/cart", 500, 7, 300)],
@@ -66,24 +68,34 @@ impl Shop {
         })
     }
 
-    // Serves each request whose turn it is. Metrics stop no service: the seat counts what is refused.
+    // Serves each request whose turn it is.
     fn serve<R: Wait>(&self, rt: &R, provider: &MeterProvider, (seat, served): &mut Worker) {
-        let number = seat.seat().number();
-        let mut at = seat.at(rt, provider);
-        for (route, status, took, size) in SERVED[number as usize % SERVED.len()] {
-            let (items, errors) = (i64::from(status == 200), i64::from(status == 500));
-            let route = Attr::text("route", route);
-            let status = Attr::whole("status", status);
-            let worker = Attr::whole("worker", i64::from(number));
-            let _ = at.add(&self.requests, &[route, status], 1);
-            let _ = at.add_bound(&self.errors, errors);
-            let _ = at.record(&self.duration, &[route], took);
-            let _ = at.record(&self.size, &[route, status], size);
-            let _ = at.record(&self.latest, &[worker], took);
-            let _ = at.add(&self.sold, &[route], items);
-            let _ = at.add(&self.stock, &[], -items);
+        for request in SERVED[seat.seat().number() as usize % SERVED.len()] {
+            self.measure(rt, provider, seat, request);
             *served = served.saturating_add(1);
         }
+    }
+
+    // Records a request. Metrics stop no service: the seat counts what is refused.
+    fn measure<R: Wait>(
+        &self,
+        rt: &R,
+        provider: &MeterProvider,
+        seat: &mut Counted,
+        (route, status, took, size): Request,
+    ) {
+        let (items, errors) = (i64::from(status == 200), i64::from(status == 500));
+        let route = Attr::text("route", route);
+        let status = Attr::whole("status", status);
+        let worker = Attr::whole("worker", i64::from(seat.seat().number()));
+        let mut at = seat.at(rt, provider);
+        let _ = at.add(&self.requests, &[route, status], 1);
+        let _ = at.add_bound(&self.errors, errors);
+        let _ = at.record(&self.duration, &[route], took);
+        let _ = at.record(&self.size, &[route, status], size);
+        let _ = at.record(&self.latest, &[worker], took);
+        let _ = at.add(&self.sold, &[route], items);
+        let _ = at.add(&self.stock, &[], -items);
     }
 }
 
