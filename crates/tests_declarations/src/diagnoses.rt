@@ -3,11 +3,8 @@ use crate::asserted::{OrFail, assert_equal};
 use crate::declared::{Declared, read_both};
 use metric_advice::lint;
 use metric_catalogue::Catalogue;
-use metric_cert::Certificate;
-use metric_check::{CheckFault, ClaimFault, ClaimPlace};
 use metric_diagnosis::{
-    NamedText, Pair, diagnose_catalogue, diagnose_certificate, diagnose_check, diagnose_config,
-    diagnose_make, diagnose_remark,
+    NamedText, Pair, diagnose_catalogue, diagnose_config, diagnose_make, diagnose_remark,
 };
 use metric_make::{MakeFault, make};
 use metric_views::Config;
@@ -113,7 +110,7 @@ fn faults_of_catalogues_are_told(rt: HostRuntime) {
 }
 
 // What follows a beginning, or the whole text where it does not begin with that.
-fn after<'t>(told: &'t str, begin: &str) -> &'t str {
+pub(crate) fn after<'t>(told: &'t str, begin: &str) -> &'t str {
     told.strip_prefix(begin).unwrap_or(told)
 }
 
@@ -753,107 +750,4 @@ fn remarks_are_told_with_their_places(rt: HostRuntime) {
     let declared = read_both(&rt, alloc, catalogue.as_str(), REMARKED);
     let told = told_remarks(&rt, alloc, pair_of(&declared, catalogue.as_str(), REMARKED));
     assert_equal(&rt, told.as_str(), TOLD);
-}
-
-// A fault of a certificate, and what is told of it.
-const CHECKS: &[(CheckFault, ClaimPlace, &str)] = &[
-    (
-        CheckFault::BadSets,
-        ClaimPlace::Stream(3),
-        "w.toml: the certificate is of other files, or was altered: a stream may have another number of series than it says (stream 3); make it anew",
-    ),
-    (
-        CheckFault::SumLow,
-        ClaimPlace::Bound(1),
-        "w.toml: the certificate is of other files, or was altered: the least sum of an instrument is another than it says, or too low (instrument 1); make it anew",
-    ),
-    (
-        CheckFault::PairMissing,
-        ClaimPlace::Reason(7),
-        "w.toml: the certificate is of other files, or was altered: its reasons are not one for each view and instrument, in order (reason 7); make it anew",
-    ),
-    (
-        CheckFault::BadOrder,
-        ClaimPlace::Orders,
-        "w.toml: the certificate is of other files, or was altered: the streams of a reader are not in the order of their identities; make it anew",
-    ),
-    (
-        CheckFault::Memory,
-        ClaimPlace::Nowhere,
-        "w.toml: out of memory",
-    ),
-];
-
-#[test]
-fn faults_of_certificates_are_told(rt: HostRuntime) {
-    let (name, text, alloc) = ("w.toml", "format = 1", rt.alloc());
-    for (fault, place, wanted) in CHECKS {
-        let claim = ClaimFault {
-            fault: *fault,
-            place: *place,
-        };
-        let told = diagnose_check(alloc, NamedText { name, text }, claim).or_fail(&rt);
-        let told = format!(in alloc; "{told}").or_fail(&rt);
-        assert_equal(&rt, told.as_str(), *wanted);
-    }
-}
-
-// Texts that may be certificates, and what is told of them.
-const CERTIFICATES: &[(&str, &str)] = &[
-    (
-        "format = 1\nreason = []\nstream = []\nbound = []\norder = []",
-        "right",
-    ),
-    (
-        "format = 1",
-        ": the tables are not those of a certificate: it was altered, or is of another format; make it anew",
-    ),
-    (
-        "format = 3\nreason = []\nstream = []\nbound = []\norder = []",
-        ": the tables are not those of a certificate: it was altered, or is of another format; make it anew",
-    ),
-    (
-        "format = 1\nreason = {}\nstream = []\nbound = []\norder = []",
-        ": the tables are not those of a certificate: it was altered, or is of another format; make it anew",
-    ),
-    (
-        "bound = []\nformat = 1\norder = []\nstream = []\n[[reason]]\nview = 0\ninstrument = 0\nmiss = 'meter_name'\n[[reason]]\nview = 0\ninstrument = 1\nmiss = 'meter'",
-        ":9:1: reason 1 is not one of a certificate: it was altered, or is of another format; make it anew",
-    ),
-    (
-        "bound = []\nformat = 1\norder = []\nreason = []\n[[stream]]\nreader = 0\ninstrument = 0\nby = 'list'\nsets = 1",
-        ":5:1: stream 0 is not one of a certificate: it was altered, or is of another format; make it anew",
-    ),
-    (
-        "format = 1\nreason = []\nstream = []\norder = []\nbound = [{ instrument = 0, total = '1', amount = '0', low = '0', high = '0' }, { instrument = 1 }]",
-        ":5:80: bound 1 is not one of a certificate: it was altered, or is of another format; make it anew",
-    ),
-    (
-        "format = 1\nreason = []\nstream = []\nbound = []\norder = [5]",
-        ":5:10: order 0 is not one of a certificate: it was altered, or is of another format; make it anew",
-    ),
-    (
-        "format = 1\norder = [5]\nbound = [5]\nstream = [5]\nreason = [5]",
-        ":5:11: reason 0 is not one of a certificate: it was altered, or is of another format; make it anew",
-    ),
-];
-
-// What is told of the text of a certificate.
-fn of_certificate<R: Abort>(rt: &R, alloc: Global, text: &str) -> String {
-    let name = "certificate.toml";
-    match Certificate::read(alloc, text) {
-        Ok(_) => String::from_str(alloc, "right").or_fail(rt),
-        Err(fault) => {
-            let told = diagnose_certificate(alloc, NamedText { name, text }, fault).or_fail(rt);
-            format!(in alloc; "{told}").or_fail(rt)
-        }
-    }
-}
-
-#[test]
-fn texts_that_are_no_certificates_are_told(rt: HostRuntime) {
-    for (text, wanted) in CERTIFICATES {
-        let told = of_certificate(&rt, rt.alloc(), text);
-        assert_equal(&rt, after(told.as_str(), "certificate.toml"), *wanted);
-    }
 }

@@ -38,6 +38,8 @@ mod patterns;
 #[cfg(test)]
 mod pictures;
 #[cfg(test)]
+mod refused_certificates;
+#[cfg(test)]
 mod remarks;
 #[cfg(test)]
 mod short_service;
