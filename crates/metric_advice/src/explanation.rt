@@ -47,7 +47,8 @@ pub enum Mistake<'a> {
 }
 
 /// Why a recording of this value with these attributes on the instrument of this number is refused, or nothing where
-/// what it says is in order: the first mistake, with the key, the value or the range that it is about. Takes no memory.
+/// what it says is in order: the first mistake, with the key, the value or the range that it is about. Allocates no
+/// memory.
 ///
 /// The refusal is that of `Catalogue::encode`, or where that gives none, `Refusal::ValueRange`. A recording may still
 /// be refused for what was recorded before it.

@@ -33,7 +33,7 @@ pub struct Headroom {
 
 /// The headroom of each instrument, in order: the greatest sum of budgets and spare at which its part of safety holds,
 /// and the first part that fails with one recording more. Two streams of one identity are left out of account. Fails
-/// only where memory is refused.
+/// only when out of memory.
 pub fn headrooms(
     alloc: Global,
     catalogue: &Catalogue,
@@ -238,7 +238,7 @@ fn most_by_series(
 
 /// How many distinct sets of the kept keys recordings of a stream may have, and so how many series it may have beside
 /// the overflow point: as many as the combinations that its instrument lists leave, else the product of the numbers of
-/// values. Fails only where memory is refused.
+/// values. Fails only when out of memory.
 #[tactic(auto, unfolding(metric_bounds::specs::Sets::sets_of))]
 pub fn sets_of(alloc: Global, catalogue: &Catalogue, stream: &Stream) -> Result<u128, AllocError>
     ensures { IfOk result (λ count. count ≡ sets_of catalogue.now stream.now) }

@@ -30,7 +30,7 @@ use std::alloc::{AllocError, Global};
 /// each value that no allowed combination has, and budgets and spare together above its headroom; then each stream of
 /// which one bucket takes all; then of each recorder whether it has no budget, and that there is no recorder; then of
 /// each reader whether it has no stream, and delta streams of up-down counters and of gauges, and that there is no
-/// reader. Fails only where memory is refused.
+/// reader. Fails only when out of memory.
 pub fn lint(
     alloc: Global,
     catalogue: &Catalogue,

@@ -23,8 +23,7 @@ pub struct Position {
 /// key or a budget stands where its instrument or recorder does.
 ///
 /// Nothing where the text has no such header, or has a list of such tables in one line, as `recorder = [{ name = "main"
-/// }]`. A line of a text in several lines that looks like a header is taken for one. Fails only where memory is
-/// refused.
+/// }]`. A line of a text in several lines that looks like a header is taken for one. Fails only when out of memory.
 pub fn locate_in_catalogue(
     alloc: Global,
     text: &str,

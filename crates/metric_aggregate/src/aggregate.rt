@@ -46,19 +46,18 @@ pub trait Aggregate: Drop {
     fn is_empty(&self) -> bool
         ensures { result ≡ is_empty self.now };
 
-    /// The value of what was added, of which there is some. Fails only where memory is refused.
+    /// The value of what was added, of which there is some. Fails only when out of memory.
     fn read(&self, alloc: Global) -> Result<PointValue, AllocError>
         requires { is_empty self.now ≡ false }
         ensures { IfOk result (λ value. (added : List ℤ) → stands self.now added
             → value ≡ value_of (aggregation self.now) added) };
 
-    /// Forgets all values. Takes no memory.
+    /// Forgets all values. Allocates no memory.
     fn reset(&mut self)
         ensures aggregation { aggregation self.new ≡ aggregation self.old }
         ensures stands { stands self.new [] };
 
-    /// An empty aggregator of these parameters. All room that it will use is made here. Fails only where memory
-    /// is refused.
+    /// An empty aggregator of these parameters. All room that it will use is made here. Fails only when out of memory.
     fn with_parameters(alloc: Global, parameters: &Self::Parameters) -> Result<Self, AllocError>
     where
         Self: Sized,

@@ -52,8 +52,8 @@ impl BucketAgg {
     ghost use Rattle.metric_aggregate.specs.BucketAgg.{histogram_aggregation, StandsBuckets};
     ghost use Rattle.metric_aggregate.specs.Aggregation.{HistogramAggregation};
 
-    /// A histogram of no values; no boundaries at all make a single bucket. All room that it will use is
-    /// made here. Fails only where memory is refused.
+    /// A histogram of no values; no boundaries at all make a single bucket. All room that it will use is made here.
+    /// Fails only when out of memory.
     pub fn new(
         alloc: Global,
         boundaries: &Shared<Boundaries>,

@@ -11,7 +11,7 @@ use Rattle.std.proofs.lemmas.List.Sums.{fold-append}
 use Rattle.std.proofs.lemmas.Option.{get_or_from_slice_get, slice_get_within}
 use Rattle.metric_audit.specs.Batches.{AreAllRight, FollowsRightly, IsFirstWrong, IsRight, IsRightAt, each_may_follow, mark_after, may_follow, time_after}
 use Rattle.metric_audit.specs.Replays.{FindsWrong, GoesOn, IsFirstStrange, IsFirstWrongOf, IsWrongOf, are_of_reader, facts_of_reader, is_batch_of}
-use Rattle.metric_book.specs.Journals.{Standing}
+use Rattle.metric_history.specs.Journals.{Standing}
 use Rattle.metric_facts.specs.declared.facts.FactsFields.{FactsFields as Facts}
 use Rattle.metric_facts.specs.declared.facts.NumberedStream.{NumberedStream}
 use Rattle.metric_facts.specs.Facts.{in_bounds, is_allowed_set, is_delta, is_of_reader}

@@ -8,7 +8,7 @@ use Rattle.std.proofs.lemmas.Bool.Decides.{nat_tests}
 use Rattle.std.proofs.lemmas.List.{get_or-set_same, length-set, length-take-le}
 use Rattle.metric_audit.specs.Batches.{FollowsRightly, each_may_follow, is_headed, may_follow}
 use Rattle.metric_audit.specs.Replays.{IsReplayed, JudgesBatch, ReportsPoints, TakesWhereIt, are_of_reader, may_take_each}
-use Rattle.metric_book.specs.Journals.{MovesMark, Standing}
+use Rattle.metric_history.specs.Journals.{MovesMark, Standing}
 use Rattle.metric_facts.specs.declared.facts.FactsFields.{FactsFields as Facts}
 use Rattle.metric_facts.specs.declared.facts.NumberedStream.{NumberedStream}
 use Rattle.metric_facts.specs.Facts.{in_bounds, is_allowed_set, is_delta, is_of_reader}

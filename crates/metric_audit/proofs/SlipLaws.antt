@@ -4,7 +4,7 @@ use Rattle.std.specs.Prelude.{◌↔◌, IsTrue, nat_le}
 use Rattle.std.proofs.lemmas.Bool.Decides.{nat_tests}
 use Rattle.std.proofs.lemmas.List.{drop_all}
 use Rattle.metric_audit.specs.Slips.{Awaits}
-use Rattle.metric_book.specs.declared.slip.Slip.{Slip}
+use Rattle.metric_history.specs.declared.slip.Slip.{Slip}
 
 nothing-cons : (x : Slip) (xs : List Slip) → x ∷ xs ≡ [] → ⊥
 nothing-cons x xs e = cc

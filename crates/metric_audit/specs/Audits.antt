@@ -7,7 +7,7 @@ use Rattle.metric_audit.specs.declared.fault.AuditFault.TheVariants.{Slips, Batc
 use Rattle.metric_audit.specs.declared.fault.AuditFault.TheVariants as faults
 use Rattle.metric_audit.specs.Batches.{AreAllRight, IsFirstWrong}
 use Rattle.metric_audit.specs.Slips.{AreEntriesOf, IsFirstUnlike}
-use Rattle.metric_book.specs.declared.slip.Slip.{Slip}
+use Rattle.metric_history.specs.declared.slip.Slip.{Slip}
 use Rattle.metric_facts.specs.declared.facts.FactsFields.{FactsFields as Facts}
 use Rattle.metric_facts.specs.Facts.{RunFacts, in_bounds, is_allowed_set}
 use Rattle.metric_history.specs.declared.batch.Batch as batches

@@ -4,7 +4,7 @@ use Rattle.std.specs.Prelude.{◌++◌, Some, MatchBool, length, take, filter, s
 use Rattle.std.specs.Prelude.{if◌then◌else◌, ◌↔◌, IsTrue}
 use Rattle.std.specs.List.{list_all}
 use Rattle.metric_audit.specs.Batches.{FollowsRightly, IsRight, IsRightAt}
-use Rattle.metric_book.specs.Journals.{Standing, window_of}
+use Rattle.metric_history.specs.Journals.{Standing, window_of}
 use Rattle.metric_facts.specs.declared.facts.FactsFields.{FactsFields as Facts}
 use Rattle.metric_facts.specs.declared.facts.NumberedStream.{NumberedStream}
 use Rattle.metric_facts.specs.Facts.{in_bounds, is_allowed_set, is_of_reader}

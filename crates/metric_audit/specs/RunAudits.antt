@@ -6,7 +6,7 @@ use Rattle.std.specs.List.{position_from}
 use Rattle.metric_audit.specs.Audits.{AuditsInstrument}
 use Rattle.metric_audit.specs.Batches.{mark_after}
 use Rattle.metric_audit.specs.declared.fault.AuditFault.TheVariants as audits
-use Rattle.metric_book.specs.declared.slip.Slip.{Slip}
+use Rattle.metric_history.specs.declared.slip.Slip.{Slip}
 use Rattle.metric_history.specs.declared.batch.Batch.{Batch}
 use Rattle.metric_history.specs.declared.entry.Entry.{Entry}
 use Rattle.metric_plan.specs.Plans.{PlanValue, print_of}
@@ -84,7 +84,7 @@ AuditsOne plan start extent i (Some journal) (Some slips) told result =
     (result ≡ Err (Lists i))
 AuditsOne plan start extent i _ _ told result = result ≡ Err (Lists i)
 
--- the first instrument of which something is found, or memory was refused
+-- the first instrument of which something is found, or memory ran out
 pub record FindsFirst (one : ℕ → Result (Unit {0}) RunAuditFault → Type 0) (count : ℕ)
     (fault : RunAuditFault) : Type 0 where
   pub instrument : ℕ

@@ -1,8 +1,8 @@
 -- Whether slips are the entries of their recorders.
 use Rattle.std.specs.Prelude.{◌≡◌, ◌<◌, ◌≤◌, ◌↔◌, ◌==◌, ℕ, List, [], ◌∷◌, Option, Some, None, drop}
 use Rattle.std.specs.Prelude.{length, min, nat_lt, slice_index_or, if◌then◌else◌}
-use Rattle.metric_book.specs.Slips.{slip_of, slips_of}
-use Rattle.metric_book.specs.declared.slip.Slip.{Slip}
+use Rattle.metric_history.specs.Slips.{slip_of, slips_of}
+use Rattle.metric_history.specs.declared.slip.Slip.{Slip}
 use Rattle.metric_history.specs.declared.entry.Entry.{Entry}
 
 -- the slips that were handed in for a recorder: none where it has no list

@@ -1,13 +1,12 @@
 //! A book of running tables that keeps the recordings too.
 ghost use Rattle.std.specs.Prelude.{Err};
-ghost use Rattle.metric_book.specs.Journals.{JudgesRecording, MayTake};
+ghost use Rattle.metric_history.specs.Journals.{JudgesRecording, MayTake};
 ghost use Rattle.metric_marked.specs.Marks.{StandsMarked};
 
-use metric_book::{Book, Window};
 use metric_contents::Refusal;
-use metric_history::Entry;
+use metric_facts::Facts;
+use metric_history::{Book, Entry, Window};
 use metric_marked::Marked;
-use metric_plan::Plan;
 use std::alloc::{AllocError, Global};
 use std::marker::Model;
 
@@ -44,9 +43,9 @@ impl Book for Audited {
 
     const KEEPS_ENTRIES: bool = true;
 
-    fn new(alloc: Global, plan: &Plan, instrument: u32, seed: u64) -> Result<Audited, AllocError> {
+    fn new(alloc: Global, facts: &Facts, seed: u64) -> Result<Audited, AllocError> {
         Ok(Audited {
-            tables: Marked::new(alloc, plan, instrument, seed)?,
+            tables: Marked::new(alloc, facts, seed)?,
             entries: Vec::new(alloc),
         })
     }

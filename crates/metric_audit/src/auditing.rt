@@ -8,8 +8,7 @@ use crate::fault::AuditFault;
 use crate::replay::Run;
 use crate::slips::first_unlike;
 use metric_base::Items;
-use metric_book::Slip;
-use metric_history::{Batch, Entry};
+use metric_history::{Batch, Entry, Slip};
 use metric_plan::Plan;
 use std::alloc::Global;
 
@@ -17,9 +16,9 @@ use std::alloc::Global;
 /// batch is what its reader had to be told of the journal cut at the batch's mark, after the reader's batch before it
 /// (Metrics SDK, collect): where it begins, since when, a time that does not go back, and the points of its streams.
 ///
-/// The journal is the instrument's accepted recordings since the start, in nanoseconds, oldest first. The slips stand in
-/// the order of the recorders. Batches of several readers may stand in any order, those of one reader in the order in
-/// which they were told. A reader need not have told of the whole journal: only what its batches say is compared.
+/// The journal is the instrument's accepted recordings since the start, in nanoseconds, oldest first. The slips stand
+/// in the order of the recorders. Batches of several readers may stand in any order, those of one reader in the order
+/// in which they were told. A reader need not have told of the whole journal: only what its batches say is compared.
 ///
 /// # Errors
 ///

@@ -7,7 +7,7 @@ ghost use Rattle.metric_audit.specs.Replays.{FindsWrong, IsFirstStrange, IsFirst
 use crate::reader_facts::facts_of_reader;
 use crate::replay::{Run, first_wrong_of};
 use metric_facts::Facts;
-use metric_history::Batch;
+use metric_history::{Batch, Book};
 use metric_marked::Marked;
 use std::alloc::{AllocError, Global};
 
@@ -48,7 +48,7 @@ fn first_wrong_by(
         return Ok(batches.len());
     }
     let own = facts_of_reader(alloc, facts, reader)?;
-    let book = Marked::with_facts(alloc, &own, run.start)?;
+    let book = Marked::new(alloc, &own, run.start)?;
     first_wrong_of(book, alloc, &own, run, reader, batches)
 }
 

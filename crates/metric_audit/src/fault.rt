@@ -17,7 +17,7 @@ pub enum AuditFault {
         /// The batch's place.
         at: usize,
     },
-    /// Memory was refused.
+    /// Out of memory.
     #[error("3 Memory")]
     Memory,
     /// The entry at this place, counted from 0, is the first that the instrument would have refused: its set is none

@@ -2,14 +2,13 @@
 ghost use Rattle.std.specs.Prelude.{◌≡◌, ◌<◌, true, length, IfOk, OnOk, [], ◌∷◌};
 ghost use Rattle.metric_audit.specs.Batches.{is_headed};
 ghost use Rattle.metric_audit.specs.Replays.{GoesOn, HasRoomFor, IsFirstWrongOf, IsReplayed, JudgesBatch, ReportsPoints, TakesWhereIt, are_of_reader};
-ghost use Rattle.metric_book.specs.Journals.{HasReader, MovesMark, no_marks};
+ghost use Rattle.metric_history.specs.Journals.{HasReader, MovesMark, no_marks};
 
 use crate::entries::is_admitted;
 use crate::same::are_same_streams;
-use metric_book::Book;
 use metric_contents::Refusal;
 use metric_facts::Facts;
-use metric_history::{Batch, Entry, StreamPoints};
+use metric_history::{Batch, Book, Entry, StreamPoints};
 use std::alloc::{AllocError, Global};
 
 /// On which instrument a journal was recorded, since when, and its recordings, oldest first.
@@ -127,7 +126,8 @@ fn is_right<B: Book>(
     reports(book, alloc, batch.reader, batch.streams.as_slice())
 }
 
-// Whether a batch is another reader's, or right after the reader's last one; then what it says is what the last one said.
+// Whether a batch is another reader's, or right after the reader's last one; then what it says is what the last one
+// said.
 fn goes_on<B: Book>(
     book: &mut B,
     alloc: Global,

@@ -7,8 +7,7 @@ use crate::auditing::audit;
 use crate::fault::AuditFault;
 use crate::sorted::by_instrument;
 use metric_base::Items;
-use metric_book::Slip;
-use metric_history::{Batch, Entry};
+use metric_history::{Batch, Entry, Slip};
 use metric_plan::Plan;
 use std::alloc::{AllocError, Global};
 use thiserror::Error;
@@ -54,7 +53,7 @@ pub enum RunAuditFault {
         /// The number of the reader.
         reader: u32,
     },
-    /// Memory was refused.
+    /// Out of memory.
     #[error("5 Memory")]
     Memory,
 }

@@ -1,12 +1,11 @@
 //! Whether slips are the entries of their recorders.
 ghost use Rattle.std.specs.Prelude.{◌≡◌, ◌↔◌, ◌<◌, ◌≤◌, ℕ, List, ◌∷◌, [], Some, IsTrue, IfOk, length, slice_index_or};
 ghost use Rattle.metric_audit.specs.Slips.{AreAwaited, Advances, Awaits, FindsUnlike, FindsOpen, StrangersAre, lesser_stranger};
-ghost use Rattle.metric_book.specs.Slips.{slip_of};
-ghost use Rattle.metric_book.specs.declared.slip.Slip.{Slip as slips_seen};
+ghost use Rattle.metric_history.specs.Slips.{slip_of};
+ghost use Rattle.metric_history.specs.declared.slip.Slip.{Slip as slips_seen};
 
 use metric_base::Items;
-use metric_book::Slip;
-use metric_history::Entry;
+use metric_history::{Entry, Slip};
 use std::alloc::{AllocError, Global};
 
 // Whether a slip is that of an entry.

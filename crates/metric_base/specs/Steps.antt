@@ -46,7 +46,7 @@ abbrev pub each : {Y X E : Type 0} → (List Y → X → Result Y E) → List Y 
 each step before xs = in_turn (with_next step) before xs
 
 -- # gives (profile) [Gives, GivesBy]
--- What a function returned is what its definition gives, unless memory was refused.
+-- What a function returned is what its definition gives, unless memory ran out.
 abbrev pub Gives : {X E : Type 0} → E → Result X E → Result X E → Type 0
 Gives memory (Ok x) read = read ≡ Ok x
 Gives memory (Err e) read = e ≢ memory → read ≡ Err e
@@ -57,8 +57,8 @@ GivesBy view memory (Ok x) read = read ≡ Ok (view x)
 GivesBy view memory (Err e) read = e ≢ memory → read ≡ Err e
 
 -- # advances (profile)
--- The new value of an argument is what its definition gives, or the fault is, unless memory was
--- refused.
+-- The new value of an argument is what its definition gives, or the fault is, unless memory ran
+-- out.
 abbrev pub Advances : {X E : Type 0} → E → Result (Unit {0}) E → X → Result X E → Type 0
 Advances memory (Ok done) new read = read ≡ Ok new
 Advances memory (Err e) new read = e ≢ memory → read ≡ Err e

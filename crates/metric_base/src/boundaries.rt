@@ -26,7 +26,7 @@ impl Model for Boundaries {
 }
 
 impl Boundaries {
-    /// The boundaries that a list is, which rises strictly. Takes no memory.
+    /// The boundaries that a list is, which rises strictly. Allocates no memory.
     pub fn from_few(numbers: Few<i64, 128>) -> Boundaries
         requires { is_rising numbers ≡ true }
         ensures { result ≡ numbers }

@@ -6,14 +6,14 @@ use std::alloc::{AllocError, Global};
 
 /// A value that can be copied. The copy is equal to the value.
 pub trait Copied {
-    /// A copy. Fails only where memory is refused.
+    /// A copy. Fails only when out of memory.
     fn copy(&self, alloc: Global) -> Result<Self, AllocError>
     where
         Self: Sized,
         ensures { IfOk result (λ copied. copied ≡ self.now) };
 }
 
-/// A copy of each value, in order. Fails only where memory is refused.
+/// A copy of each value, in order. Fails only when out of memory.
 pub fn copy_all<T: Copied + Drop>(alloc: Global, values: &[T]) -> Result<Items<T>, AllocError>
     ensures { IfOk result (λ copies. copies ≡ values.now) }
 {

@@ -24,7 +24,7 @@ impl<T, const MOST: usize> Model for Few<T, MOST> {
 }
 
 impl<T, const MOST: usize> Few<T, MOST> {
-    /// The same list, which is short enough. Takes no memory.
+    /// The same list, which is short enough. Allocates no memory.
     pub fn from_items(items: Items<T>) -> Few<T, MOST>
         requires { length items ≤ MOST }
         ensures { result ≡ items }
@@ -32,7 +32,7 @@ impl<T, const MOST: usize> Few<T, MOST> {
         Few { items }
     }
 
-    /// The same list. Takes no memory.
+    /// The same list. Allocates no memory.
     pub fn into_items(self) -> Items<T>
         ensures items { result ≡ self }
         ensures few { length self ≤ MOST }

@@ -21,7 +21,7 @@ impl<T> Model for Items<T> {
 }
 
 impl<T> Items<T> {
-    /// The empty list. Takes no memory.
+    /// The empty list. Allocates no memory.
     pub fn new(alloc: Global) -> Items<T>
         ensures { result ≡ [] }
     {
@@ -30,14 +30,14 @@ impl<T> Items<T> {
         }
     }
 
-    /// The list that a `Vec` holds. Takes no memory.
+    /// The list that a `Vec` holds. Allocates no memory.
     pub fn from_vec(items: Vec<T>) -> Items<T>
         ensures { result ≡ items.items }
     {
         Items { items }
     }
 
-    /// The `Vec` of the values. Takes no memory.
+    /// The `Vec` of the values. Allocates no memory.
     pub fn into_vec(self) -> Vec<T>
         ensures { result.items ≡ self }
     {
@@ -65,7 +65,7 @@ impl<T> Items<T> {
         self.items.is_empty()
     }
 
-    /// Puts a value last. Where memory is refused, the list stays as it was.
+    /// Puts a value last. When out of memory, the list stays as it was.
     pub fn push(&mut self, value: T) -> Result<(), AllocError>
     where
         T: Drop,

@@ -33,14 +33,14 @@ impl Text {
         Ok(Text { string })
     }
 
-    /// The text that a `String` holds. Takes no memory.
+    /// The text that a `String` holds. Allocates no memory.
     pub fn from_string(string: String) -> Text
         ensures { result ≡ string_bytes string }
     {
         Text { string }
     }
 
-    /// The `String` that the text was made of. Takes no memory.
+    /// The `String` that the text was made of. Allocates no memory.
     pub fn into_string(self) -> String
         ensures { string_bytes result ≡ self }
     {

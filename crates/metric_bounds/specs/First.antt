@@ -18,7 +18,7 @@ abbrev pub Each : {X F : Type 0} → (X → Option F → Type 0) → List X → 
 Each Finds [] found = found ≡ None
 Each Finds (x ∷ xs) found = Then (Finds x) (Each Finds xs) found
 
--- what a call finds that answers with a fault, unless memory was refused
+-- what a call finds that answers with a fault, unless memory ran out
 abbrev pub Reports : {X F : Type 0} → F → (Option F → Type 0) → Result X F → Type 0
 Reports memory Finds (Ok x) = Finds None
 Reports memory Finds (Err fault) = fault ≢ memory → Finds (Some fault)

@@ -10,8 +10,9 @@ use metric_contents::{Instrument, Key, SetKey};
 use metric_views::Stream;
 use std::alloc::{AllocError, Global};
 
-/// How many distinct sets of the kept keys there are, whichever combinations the instrument allows: the product over the
-/// keys that a stream keeps of the number of declared values, one more where the key may be left out. At most 1001^8.
+/// How many distinct sets of the kept keys there are, whichever combinations the instrument allows: the product over
+/// the keys that a stream keeps of the number of declared values, one more where the key may be left out. At most
+/// 1001^8.
 ///
 /// A stream that says of each key whether it is kept, as those of a config do, sees no more sets than that, whichever
 /// combinations its instrument lists.
@@ -61,8 +62,8 @@ fn factor_of(kept: bool, key: &Key) -> u128
 }
 
 /// The distinct sets of the kept keys that the allowed combinations of a stream's instrument leave, in strictly rising
-/// order, where the instrument lists its combinations: recordings of the stream have no other series. Fails only where
-/// memory is refused.
+/// order, where the instrument lists its combinations: recordings of the stream have no other series. Fails only when
+/// out of memory.
 #[tactic(auto, unfolding(crate::specs::Sets::listed_of))]
 pub fn listed(
     alloc: Global,

@@ -45,10 +45,10 @@ impl Model for Catalogue {
 }
 
 impl Catalogue {
-    /// The catalogue that a text in TOML is, or its first fault: the top table first, then each meter,
-    /// each of its instruments and each of that one's keys, then each recorder and each of its budgets;
-    /// in a table first a field that has no place there, then the fields in the order of the format,
-    /// then a table that stands twice. The fault has the field that is wrong first, and of `values` and `allowed` the entry.
+    /// The catalogue that a text in TOML is, or its first fault: the top table first, then each meter, each of its
+    /// instruments and each of that one's keys, then each recorder and each of its budgets; in a table first a field
+    /// that has no place there, then the fields in the order of the format, then a table that stands twice. The fault
+    /// has the field that is wrong first, and of `values` and `allowed` the entry.
     #[tactic(auto, unfolding(crate::specs::Catalogues::catalogue_of))]
     pub fn read(alloc: Global, text: &str) -> Result<Catalogue, CatalogueFault>
         ensures { Gives CatalogueFault.Memory result (catalogue_of text.now) }
@@ -114,10 +114,10 @@ impl Catalogue {
         }
     }
 
-    /// The set key that the attributes name for the instrument of this number, in any order, or the
-    /// first refusal of `UnknownInstrument`, `DuplicateKey`, `UnknownKey`, `UnknownValue`,
-    /// `MissingKey`, each tried over the whole list before the next, and `Combination`. Takes no memory, and
-    /// only one pass where the attributes stand in the declared order of their keys.
+    /// The set key that the attributes name for the instrument of this number, in any order, or the first refusal of
+    /// `UnknownInstrument`, `DuplicateKey`, `UnknownKey`, `UnknownValue`, `MissingKey`, each tried over the whole list
+    /// before the next, and `Combination`. Allocates no memory, and takes only one pass where the attributes stand in
+    /// the declared order of their keys.
     pub fn encode(&self, instrument: u32, attrs: &[Attr<'_>]) -> Result<SetKey, Refusal>
         ensures { result ≡ encode_of self.now.instruments instrument (map given_by attrs.now) }
     {
@@ -132,9 +132,9 @@ impl Catalogue {
         encode_of(self.instruments(), instrument, attrs)
     }
 
-    /// What `encode_owned` answers, for lists of any length: a room that holds as many keys as there are
-    /// attributes takes the place of comparing each key with all others, where one is not declared. Takes
-    /// no memory, and what the room has held is lost.
+    /// What `encode_owned` answers, for lists of any length: a room that holds as many keys as there are attributes
+    /// takes the place of comparing each key with all others, where one is not declared. Allocates no memory, and what
+    /// the room has held is lost.
     pub fn encode_with_room<'a>(
         &self,
         instrument: u32,

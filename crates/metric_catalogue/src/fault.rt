@@ -6,8 +6,8 @@ use std::alloc::AllocError;
 use std::fmt;
 use thiserror::Error;
 
-/// The table that has a fault. Meters, instruments and recorders are numbered from 0 in the order of the file, instruments
-/// through all meters; keys from 0 in their instrument, and budgets in their recorder.
+/// The table that has a fault. Meters, instruments and recorders are numbered from 0 in the order of the file,
+/// instruments through all meters; keys from 0 in their instrument, and budgets in their recorder.
 #[derive(Clone, Copy, Debug, PartialEq, Eq, Drop)]
 pub enum CataloguePlace {
     /// The top table.
@@ -167,7 +167,7 @@ pub enum CatalogueFault {
     /// The field of a table has a defect, and is the first that has one.
     #[error("{0} at {1}")]
     At(CatalogueDefect, CatalogueSpot),
-    /// Memory was refused.
+    /// Out of memory.
     #[error("18 Memory")]
     Memory,
 }

@@ -83,7 +83,7 @@ impl Certificate {
         }
     }
 
-    /// The certificate as a text, which is read as this certificate. Fails only where memory is refused.
+    /// The certificate as a text, which is read as this certificate. Fails only when out of memory.
     pub fn write(&self, alloc: Global) -> Result<String, AllocError>
         ensures { IfOk result (λ text. certificate_from (string_bytes text) ≡ Ok self.now) }
     {

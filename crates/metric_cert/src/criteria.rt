@@ -10,8 +10,8 @@ use metric_glob::Pattern;
 use metric_views::{Criteria, is_of_kind, is_text};
 
 impl Criterion {
-    /// Whether a view does not give this criterion, or it holds for an instrument of a meter (Metrics SDK,
-    /// instrument selection criteria). Takes no memory.
+    /// Whether a view does not give this criterion, or it holds for an instrument of a meter (Metrics SDK, instrument
+    /// selection criteria). Allocates no memory.
     #[tactic(auto, using(crate::specs::CriteriaLaws::holding))]
     pub fn holds(self, criteria: &Criteria, meter: &Meter, instrument: &Instrument) -> bool
         ensures value { result ≡ holds self criteria.now meter.now instrument.now }

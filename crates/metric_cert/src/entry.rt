@@ -28,7 +28,7 @@ pub(crate) trait EntryKind {
     fn read(alloc: Global, value: &Value) -> Result<Self::Read, CertFault>
         ensures { Gives CertFault.Memory result (step (view value.now)) };
 
-    /// A value that stands for it. Fails only where memory is refused.
+    /// A value that stands for it. Fails only when out of memory.
     fn write(alloc: Global, entry: &Self::Read) -> Result<Value, AllocError>
         ensures reads { IfOk result (λ v. step (view v) ≡ Ok entry.now) }
         ensures printable { IfOk result (λ v. IsPrintable levels (view v)) };

@@ -57,7 +57,7 @@ pub enum CertFault {
     /// A table is not that of a certificate, and is the first that is not.
     #[error("2 Shape")]
     Shape(CertPlace),
-    /// Memory was refused.
+    /// Out of memory.
     #[error("3 Memory")]
     Memory,
 }

@@ -36,7 +36,7 @@ pub(crate) trait Fields {
     fn read(alloc: Global, table: &Table) -> Result<Self::Read, CertFault>
         ensures { Gives CertFault.Memory result (step (table_view table.now)) };
 
-    /// Puts the fields that stand for it into an empty table. Fails only where memory is refused.
+    /// Puts the fields that stand for it into an empty table. Fails only when out of memory.
     fn put(alloc: Global, table: &mut Table, entry: &Self::Read) -> Result<(), AllocError>
         requires { table_view table.old ≡ no_members }
         ensures reads { OnOk result (step (table_view table.new) ≡ Ok entry.now) }

@@ -12,7 +12,7 @@ use std::alloc::{AllocError, Global};
 /// new ones, or in what parts it differs from the new one; the new streams that are none of the old ones; and the same
 /// of instruments. Streams are the same where their readers have one name, their meters one name, version and schema
 /// URL, and they one name without case (Metrics data model, identity); of several the first counts. Takes n log n for n
-/// streams. Fails only where memory is refused.
+/// streams. Fails only when out of memory.
 pub fn changes(alloc: Global, old: Side<'_>, new: Side<'_>) -> Result<Items<Change>, AllocError>
     ensures { IfOk result (λ changes. changes ≡
         changes_of (plan_of old.entry) (plan_of new.entry)) }

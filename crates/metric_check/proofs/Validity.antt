@@ -256,7 +256,7 @@ nowhere_or_not (OfStream n) = inr (λ e. cc)
 nowhere_or_not (Bound n) = inr (λ e. cc)
 nowhere_or_not Orders = inr (λ e. cc)
 
--- a fault is want of memory, or it is not
+-- a fault is out of memory, or it is not
 refused_or_not : (claim : ClaimFault) → (claim ≡ of_none Memory) ⊎ (claim ≢ of_none Memory)
 refused_or_not claim = elim (memory_or_not claim.fault) [
   | inl memory ↦ elim (nowhere_or_not claim.place) [
@@ -269,7 +269,7 @@ refused_or_not claim = elim (memory_or_not claim.fault) [
     both : (c : ClaimFault) → c.fault ≡ Memory → c.place ≡ Nowhere → c ≡ of_none Memory
     both c memory nowhere = λ j. record { fault = memory j; place = nowhere j }
 
--- where a certificate is valid, a fault that is found unless memory was refused is Memory
+-- where a certificate is valid, a fault that is found unless memory ran out is Memory
 pub memory_alone : (contents : Contents) (config : Config) (certificate : Claims) (fault : ClaimFault)
     → (fault ≢ of_none Memory → CheckFinds contents config certificate (Some fault)) → IsValid contents config certificate → fault ≡ of_none Memory
 memory_alone contents config certificate fault found valid =

@@ -63,7 +63,7 @@ pub fn check(
     }
 }
 
-// The plan of streams that are safe. Only want of memory refuses it.
+// The plan of streams that are safe. It is refused only when out of memory.
 fn certified(
     alloc: Global,
     catalogue: Catalogue,

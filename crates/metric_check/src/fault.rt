@@ -6,8 +6,8 @@ use metric_plan::CheckFault;
 use std::alloc::AllocError;
 use std::fmt;
 
-/// The entry of a certificate that a fault is of, by its number in its list, from 0. Where an entry is missing it is the
-/// number at which that is due, and where entries follow the last that is due, that of the first of them.
+/// The entry of a certificate that a fault is of, by its number in its list, from 0. Where an entry is missing it is
+/// the number at which that is due, and where entries follow the last that is due, that of the first of them.
 #[derive(Clone, Copy, Debug, PartialEq, Eq, Drop)]
 pub enum ClaimPlace {
     /// A reason. Those of a view stand together, one for each instrument.
@@ -33,7 +33,7 @@ pub struct ClaimFault {
 }
 
 impl ClaimFault {
-    /// A fault of no entry: want of memory, or a trial whose budgets cannot be counted.
+    /// A fault of no entry: out of memory, or a trial whose budgets cannot be counted.
     pub fn of_none(fault: CheckFault) -> ClaimFault
         ensures { result ≡ of_none fault }
     {

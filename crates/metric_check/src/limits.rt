@@ -143,7 +143,8 @@ fn has_length(is_right: bool, list: &[SetKey], sets: u32) -> bool
     is_right && sets as usize == list.len()
 }
 
-// Whether a list is that of a stream, which is given, or else made. Both stand in order, so they are compared as they stand.
+// Whether a list is that of a stream, which is given, or else made. Both stand in order, so they are compared as they
+// stand.
 fn is_listed(
     alloc: Global,
     catalogue: &Catalogue,
@@ -189,8 +190,8 @@ fn note_place(places: &mut Places, stream: &Stream, number: usize) -> Result<(),
     Ok(())
 }
 
-// The list of a stream, where that of the earlier one at a place is the same: so the list of an instrument and a view is made for one
-// reader, and not for each.
+// The list of a stream, where that of the earlier one at a place is the same: so the list of an instrument and a view
+// is made for one reader, and not for each.
 fn earlier_list<'a>(
     catalogue: &Catalogue,
     stream: &Stream,

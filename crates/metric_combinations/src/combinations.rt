@@ -24,7 +24,7 @@ impl Model for Combinations {
 }
 
 impl Combinations {
-    /// The combinations that are these rows, of which there are at most 4,096. Fails only where memory is refused.
+    /// The combinations that are these rows, of which there are at most 4,096. Fails only when out of memory.
     pub(crate) fn new(alloc: Global, rows: Few<[u16; 8], 4096>) -> Result<Combinations, AllocError>
         ensures { IfOk result (λ combinations. combinations ≡ rows) }
     {
@@ -41,7 +41,8 @@ impl Combinations {
         self.index.get().rows()
     }
 
-    /// Whether a set key is one of the combinations. Takes no memory, and one step for each key, whatever the rows are.
+    /// Whether a set key is one of the combinations. Allocates no memory, and takes one step for each key, whatever the
+    /// rows are.
     pub fn contains(&self, set: &[u16; 8]) -> bool
         ensures { result ≡ allows self.now set.now }
     {
@@ -49,7 +50,8 @@ impl Combinations {
     }
 }
 
-/// Whether a set key is one of the combinations, or there are none to ask, so that each is permitted. Takes no memory.
+/// Whether a set key is one of the combinations, or there are none to ask, so that each is permitted. Allocates no
+/// memory.
 #[inline]
 pub fn permits(allowed: &Option<Combinations>, set: &[u16; 8]) -> bool
     ensures { result ≡ permits allowed.now set.now }

@@ -40,7 +40,7 @@ impl Model for Index {
 }
 
 impl Index {
-    /// The rows, with what finds them. Fails only where memory is refused.
+    /// The rows, with what finds them. Fails only when out of memory.
     pub(crate) fn new(alloc: Global, rows: Few<[u16; 8], 4096>) -> Result<Index, AllocError>
         ensures { IfOk result (λ index. index ≡ rows) }
     {
@@ -57,7 +57,7 @@ impl Index {
         self.rows.as_slice()
     }
 
-    /// Whether a set key is among the rows. Takes no memory.
+    /// Whether a set key is among the rows. Allocates no memory.
     #[inline(always)]
     pub(crate) fn contains(&self, set: &[u16; 8]) -> bool
         ensures { result ≡ allows self.now set.now }

@@ -9,8 +9,8 @@ use std::alloc::{AllocError, Global};
 use std::collections::BTreeSet;
 
 impl Combinations {
-    /// The distinct restrictions of the rows to the kept keys, in strictly rising order: the series that a stream which keeps
-    /// these keys can have. Fails only where memory is refused.
+    /// The distinct restrictions of the rows to the kept keys, in strictly rising order: the series that a stream which
+    /// keeps these keys can have. Fails only when out of memory.
     pub fn restrictions(&self, alloc: Global, kept: &[bool]) -> Result<Items<[u16; 8]>, AllocError>
         ensures { IfOk result (λ list. list ≡ restrictions kept.now self.now) }
     {
@@ -35,8 +35,8 @@ fn restricted_rows(
     Ok(sets)
 }
 
-/// The series of a recording with this set in a stream that keeps these keys: the set with 0 in place of each
-/// key that is not kept (Metrics SDK, stream configuration: attribute keys). Takes no memory.
+/// The series of a recording with this set in a stream that keeps these keys: the set with 0 in place of each key that
+/// is not kept (Metrics SDK, stream configuration: attribute keys). Allocates no memory.
 pub fn restrict(kept: &[bool], set: &[u16; 8]) -> [u16; 8]
     ensures { result ≡ restricted kept.now set.now }
 {

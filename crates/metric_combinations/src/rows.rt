@@ -31,7 +31,7 @@ impl Model for CombinationRows {
 }
 
 impl CombinationRows {
-    /// No rows. Takes no memory.
+    /// No rows. Allocates no memory.
     pub fn new(alloc: Global) -> CombinationRows
         ensures { result ≡ [] }
     {
@@ -41,8 +41,8 @@ impl CombinationRows {
         }
     }
 
-    /// Puts a row last, unless it stands there already, and answers whether it was new. Where memory is refused, the
-    /// rows stay as they were.
+    /// Puts a row last, unless it stands there already, and answers whether it was new. When out of memory, the rows
+    /// stay as they were.
     pub fn push(&mut self, row: [u16; 8]) -> Result<bool, AllocError>
         ensures new { IfOk result (λ new. new ≡ not (allows self.old row)) }
         ensures rows { IfOk result (λ new. self.new
@@ -64,7 +64,7 @@ impl CombinationRows {
         self.rows.len()
     }
 
-    /// The combinations that the rows are. Fails only where memory is refused.
+    /// The combinations that the rows are. Fails only when out of memory.
     pub fn finish(self, alloc: Global) -> Result<Combinations, AllocError>
         requires { length self ≤ 4096 }
         ensures { IfOk result (λ combinations. combinations ≡ self) }

@@ -20,7 +20,7 @@ use metric_names::ValueRef;
 /// that are left.
 pub type SetKey = [u16; 8];
 
-/// The set key of attributes for the instrument of this number, or the first refusal. Takes no memory.
+/// The set key of attributes for the instrument of this number, or the first refusal. Allocates no memory.
 #[tactic(auto, unfolding(crate::specs::Encoding::encode_of, crate::specs::Encoding::allowed_set))]
 pub fn encode_of<A: Attribute>(
     instruments: &[Instrument],

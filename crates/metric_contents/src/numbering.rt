@@ -29,7 +29,7 @@ impl Drop for Numbering {
 }
 
 impl Numbering {
-    // The numbering of no value. Takes no memory.
+    // The numbering of no value. Allocates no memory.
     pub(crate) fn new(alloc: Global) -> Numbering
         ensures { Numbers result [] }
     {

@@ -8,7 +8,8 @@ use std::fmt;
 #[derive(Clone, Copy, Debug, PartialEq, Eq, Drop)]
 pub enum Refusal {
     /// The seat's run is of another number, the seat was made for another number of instruments, or the plan has no
-    /// recorder or reader of its number; or the facts and numbers that it brings are not those of the instrument's state.
+    /// recorder or reader of its number; or the facts and numbers that it brings are not those of the instrument's
+    /// state.
     Stranger,
     /// The catalogue has no instrument of this number.
     UnknownInstrument,
@@ -36,7 +37,7 @@ pub enum Refusal {
     NoSpare,
     /// A sum would leave the range of i64, or a count that of u64.
     SumRange,
-    /// Memory was refused.
+    /// Out of memory.
     Memory,
 }
 

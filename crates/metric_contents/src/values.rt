@@ -33,7 +33,7 @@ impl Model for Values {
 }
 
 impl Values {
-    /// The values of a list, or nothing where a value stands twice. Fails only where memory is refused.
+    /// The values of a list, or nothing where a value stands twice. Fails only when out of memory.
     pub fn from_items(alloc: Global, values: Items<AttrValue>) -> Result<Option<Values>, AllocError>
         requires { length values ≤ 1000 }
         ensures { IfOk result
@@ -76,7 +76,7 @@ impl Values {
         self.as_slice().is_empty()
     }
 
-    /// The number of a value: its place in the list. Found by hash, and takes no memory.
+    /// The number of a value: its place in the list. Found by hash, and allocates no memory.
     #[inline(always)]
     pub fn number_of(&self, value: ValueRef<'_>) -> Option<u16>
         ensures exact { result ≡ place self.now (value_of value.entry) }

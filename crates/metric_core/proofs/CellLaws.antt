@@ -7,7 +7,7 @@ use Rattle.std.proofs.lemmas.Int.{ints}
 use Rattle.std.proofs.lemmas.List.{length-set, length-replicate, length_push, get_or-set_same, get_or-set_other}
 use Rattle.std.proofs.lemmas.List.Folds.{sum_by-replicate}
 use Rattle.std.proofs.lemmas.List.Sums.{get_or-le-sum_by, sum_by_push}
-use Rattle.metric_book.specs.Journals.{MayAnswer, MayTake, Standing, no_marks}
+use Rattle.metric_history.specs.Journals.{MayAnswer, MayTake, Standing, no_marks}
 use Rattle.metric_combinations.specs.Combinations.{permits}
 use Rattle.metric_history.specs.declared.entry.Entry.{Entry}
 use Rattle.metric_facts.specs.declared.facts.Facts.{Facts}

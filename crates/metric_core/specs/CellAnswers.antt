@@ -1,7 +1,7 @@
 -- What the calls of a cell answer, and what they make of it.
 use Rattle.std.specs.Prelude.{◌≡◌, ◌<◌, ◌≤◌, ◌+◌, ◌-◌, ◌+ℤ◌, ℕ, ℤ, Bool, true, false, List, [], ◌∷◌}
 use Rattle.std.specs.Prelude.{◌++◌, Result, Ok, Err, slice_index, slice_set}
-use Rattle.metric_book.specs.Journals.{Standing, kept_of}
+use Rattle.metric_history.specs.Journals.{Standing, kept_of}
 use Rattle.metric_contents.specs.declared.refusal.Refusal.{Refusal}
 use Rattle.metric_contents.specs.declared.refusal.Refusal.TheVariants.{Closed, Budget, NoSpare}
 use Rattle.metric_contents.specs.declared.refusal.Refusal.TheVariants.{SumRange, Memory}
@@ -32,8 +32,8 @@ pub record IsOverBudget {B : Type 0} (c : CellValue B) (recorder : ℕ) : Type 0
   pub is_open : c.is_closed ≡ false
   pub no_budget : budget_of c recorder ≤ slice_index c.spent recorder
 
--- what a recording is answered: `Closed`, `Budget`, `SumRange`, whichever applies first,
--- else done, unless memory is refused
+-- what a recording is answered: `Closed`, `Budget`, `SumRange`, whichever applies first, else done,
+-- unless memory runs out
 abbrev pub AnswersRecording : {B : Type 0} → (B → Standing) → CellValue B → Entry
     → Result (Unit {0}) Refusal → Type 0
 AnswersRecording stands c entry (Ok done) = IsJudged stands c entry true

@@ -3,7 +3,7 @@ use Rattle.std.specs.Prelude.{◌≡◌, ◌<◌, ◌≤◌, ◌+◌, ◌*◌, �
 use Rattle.std.specs.Prelude.{false, List, fold, length, max, replicate, slice_index}
 use Rattle.std.specs.Prelude.{slice_index_or, sum}
 use Rattle.metric_aggregate.specs.Value.{sum_of}
-use Rattle.metric_book.specs.Journals.{Standing, no_marks}
+use Rattle.metric_history.specs.Journals.{Standing, no_marks}
 use Rattle.metric_history.specs.declared.entry.Entry.{Entry}
 use Rattle.metric_facts.specs.declared.facts.Facts.{Facts}
 use Rattle.metric_history.specs.Answers.{Past, spent}

@@ -1,7 +1,7 @@
 -- For which history a core stands.
 use Rattle.std.specs.Prelude.{◌≡◌, ℕ, Bool, List, Some, length, slice_get, slice_index}
 use Rattle.std.specs.Prelude.{slice_index_or, sum}
-use Rattle.metric_book.specs.Journals.{Standing, kept_of}
+use Rattle.metric_history.specs.Journals.{Standing, kept_of}
 use Rattle.metric_history.specs.declared.entry.Entry.{Entry}
 use Rattle.metric_facts.specs.declared.facts.Facts.{Facts}
 use Rattle.metric_facts.specs.Facts.{RunFacts}

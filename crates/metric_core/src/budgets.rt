@@ -33,7 +33,8 @@ impl Budgets {
         requires spent { recorder < vec_len self.now.spent }
         requires granted { recorder < vec_len self.now.granted }
         requires budgets { recorder < length budgets.now }
-        ensures { let most = slice_index budgets.now recorder + slice_index self.now.granted.items recorder in
+        ensures { let declared = slice_index budgets.now recorder in
+            let most = declared + slice_index self.now.granted.items recorder in
             result ≡ nat_lt (slice_index self.now.spent.items recorder) most }
     {
         let at = recorder as usize;

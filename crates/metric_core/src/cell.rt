@@ -8,10 +8,9 @@ ghost use Rattle.metric_safety.specs.SafeFacts.{total};
 use crate::budgets::Budgets;
 use crate::room::numbers_apart;
 use metric_base::Copied;
-use metric_book::Book;
 use metric_contents::{Refusal, SetKey};
 use metric_facts::Facts;
-use metric_history::{Batch, Entry};
+use metric_history::{Batch, Book, Entry};
 use metric_plan::Plan;
 use std::alloc::{AllocError, Global};
 use std::marker::Model;
@@ -84,8 +83,8 @@ impl<B: Book> Model for Cell<B> {
 }
 
 impl<B: Book> Cell<B> {
-    /// The instrument of this number without recordings, since a start in nanoseconds. The start is also the seed
-    /// of a book that hashes. Fails only where memory is refused.
+    /// The instrument of this number without recordings, since a start in nanoseconds. The start is also the seed of a
+    /// book that hashes. Fails only when out of memory.
     pub fn new(
         alloc: Global,
         plan: &Plan,
@@ -116,8 +115,10 @@ impl<B: Book> Cell<B> {
         ensures new { IfOk result (λ cell. cell ≡ new_cell cell.facts start cell.book) }
         ensures stands { IfOk result (λ cell. CellStands B.stands cell []) }
     {
+        // For the proof alone: the catalogue is sound.
+        let _sound = plan.catalogue().instruments();
         let facts = plan.facts(instrument).copy(alloc)?;
-        let book = B::new(alloc, plan, instrument, seed)?;
+        let book = B::new(alloc, &facts, seed)?;
         let marks = numbers_apart(alloc, 0, facts.delta.len())?;
         let times = numbers_apart(alloc, start, facts.delta.len())?;
         let budgets = Budgets::new(alloc, facts.budgets.len(), facts.spare)?;
@@ -212,7 +213,7 @@ impl<B: Book> Cell<B> {
     }
 
     /// Ends the reader's window with a batch of this time in nanoseconds: all recordings so far were reported to it.
-    /// Takes no memory.
+    /// Allocates no memory.
     pub fn advance(&mut self, reader: u32, time: u64)
         requires { reader < length self.old.facts.delta }
         ensures new { self.new ≡ with_batch self.old reader time self.new.book }
@@ -239,7 +240,7 @@ impl<B: Book> Cell<B> {
 
     /// Grants a recorder so many recordings beside its budget, of what is left of the instrument's spare budget.
     /// `Closed` comes exactly where the instrument is closed, else `NoSpare` exactly where more is asked for than is
-    /// left. Takes no memory.
+    /// left. Allocates no memory.
     pub fn grant(&mut self, recorder: u32, amount: u64) -> Result<(), Refusal>
         requires { recorder < length self.old.facts.budgets }
         ensures answer { AnswersGrant self.old amount result }

@@ -10,9 +10,8 @@ ghost use Rattle.metric_history.specs.Legal.{AllLegal, grown};
 
 use crate::cell::Cell;
 use crate::steps::step;
-use metric_book::Book;
 use metric_history::laws::runs_keep_histories_legal;
-use metric_history::{Entry, Event, Reply};
+use metric_history::{Book, Entry, Event, Reply};
 use metric_plan::Plan;
 use metric_safety::laws::safe_plans_have_safe_histories;
 use std::alloc::{AllocError, Global};
@@ -114,8 +113,7 @@ fn run_on<'a, B: Book>(
 }
 
 impl<B: Book> Core<B> {
-    /// A core of the plan without any event, since a start in nanoseconds. Where memory is refused, the plan
-    /// is handed back.
+    /// A core of the plan without any event, since a start in nanoseconds. When out of memory, the plan is handed back.
     pub fn new(alloc: Global, plan: Plan, start: u64) -> Result<Core<B>, (Plan, AllocError)>
         ensures plan { IfOk result (λ core. core.plan ≡ plan) }
         ensures start { IfOk result (λ core. core.start ≡ start) }

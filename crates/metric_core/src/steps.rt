@@ -5,11 +5,10 @@ ghost use Rattle.metric_core.specs.Steps.{CellStep, CloseStep, CollectStep, Gran
 ghost use Rattle.metric_history.specs.Events.{attr_count};
 
 use crate::cell::Cell;
-use metric_book::Book;
 use metric_catalogue::Catalogue;
 use metric_contents::{Refusal, SetKey};
 use metric_facts::laws::attributes_name_allowed_sets;
-use metric_history::{Event, Reply};
+use metric_history::{Book, Event, Reply};
 use metric_plan::Plan;
 use std::alloc::Global;
 

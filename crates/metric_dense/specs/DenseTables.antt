@@ -14,9 +14,8 @@ use Rattle.metric_history.specs.declared.entry.Entry.{Entry}
 use Rattle.metric_series.specs.declared.place.Place.{Place}
 use Rattle.metric_series.specs.declared.place.Place.TheVariants.{Held}
 use Rattle.metric_series.specs.Ready.{Adds}
-use Rattle.metric_series.specs.SeriesTables.{by_aggregation}
+use Rattle.metric_series.specs.SeriesTables.{ByAggregation, by_aggregation}
 use Rattle.metric_series.specs.Tables.{HasRows}
-use Rattle.metric_series.specs.declared.series_table.ByAggregation.{ByAggregation}
 use Rattle.metric_series.specs.declared.table.Table as table
 use Rattle.metric_views.specs.declared.stream.Stream.{Stream}
 use Rattle.metric_facts.specs.Products.{product_of}

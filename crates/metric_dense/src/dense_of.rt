@@ -19,8 +19,8 @@ use metric_series::{Place, SeriesFault, Table};
 use std::alloc::{AllocError, Global};
 use std::marker::Model;
 
-// At least 128 bytes of aggregates: behind what recordings write is room that nobody writes, so that what the allocator hands
-// out next lies on other lines of cache.
+// At least 128 bytes of aggregates: behind what recordings write is room that nobody writes, so that what the allocator
+// hands out next lies on other lines of cache.
 const SPARE: usize = 16;
 
 /// The series of a stream whose values are aggregated by `A`, each found by its rank. A clause sees the flags of
@@ -53,8 +53,8 @@ impl<A: Aggregate> Model for DenseOf<A> {
 }
 
 impl<A: Aggregate> DenseOf<A> {
-    /// A table of no recordings, of so many keys of which those with the flags are kept. The aggregates
-    /// of all series are made of the parameters, so that all memory is taken here. Fails only where memory is refused.
+    /// A table of no recordings, of so many keys of which those with the flags are kept. The aggregates of all series
+    /// are made of the parameters, so that all memory is taken here. Fails only when out of memory.
     pub(crate) fn new(
         alloc: Global,
         keys: &[KeyFacts],

@@ -35,7 +35,7 @@ impl Model for Ranks {
 }
 
 impl Ranks {
-    /// The ranks by these keys, of which those with the flags are kept. Fails only where memory is refused.
+    /// The ranks by these keys, of which those with the flags are kept. Fails only when out of memory.
     pub(crate) fn new(
         alloc: Global,
         keys: &[KeyFacts],
@@ -65,7 +65,7 @@ impl Ranks {
         sets_of(self.kept.get().as_slice(), self.keys.as_slice()) as usize
     }
 
-    /// The rank of a full set. It takes no memory and has no branch for a key.
+    /// The rank of a full set. It allocates no memory and has no branch for a key.
     pub(crate) fn rank(&self, set: &SetKey) -> u64
         requires { is_full_set self.now.keys set.now ≡ true }
         ensures { result ≡ rank_of self.now.kept self.now.keys set.now }

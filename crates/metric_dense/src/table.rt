@@ -8,7 +8,7 @@ use crate::dense_of::DenseOf;
 use metric_aggregate::{BucketAgg, HistogramParameters, LastAgg, SumAgg};
 use metric_base::Copied;
 use metric_facts::KeyFacts;
-use metric_series::{ByAggregation, Table};
+use metric_series::{ByAggregation, Either, Table};
 use metric_views::{Stream, StreamAggregation};
 use std::alloc::{AllocError, Global};
 
@@ -16,7 +16,7 @@ use std::alloc::{AllocError, Global};
 /// that read its points takes memory.
 pub type DenseTable = ByAggregation<DenseOf<SumAgg>, DenseOf<LastAgg>, DenseOf<BucketAgg>>;
 
-/// The dense table of a stream of these keys without recordings. Fails only where memory is refused.
+/// The dense table of a stream of these keys without recordings. Fails only when out of memory.
 pub fn dense_table(
     alloc: Global,
     keys: &[KeyFacts],
@@ -33,11 +33,11 @@ pub fn dense_table(
     match &stream.aggregation {
         StreamAggregation::Sum => {
             let table = DenseOf::new(alloc, keys, kept, &())?;
-            Ok(DenseTable::Sum(table))
+            Ok(Either::Left(table))
         }
         StreamAggregation::LastValue => {
             let table = DenseOf::new(alloc, keys, kept, &())?;
-            Ok(DenseTable::LastValue(table))
+            Ok(Either::Right(Either::Left(table)))
         }
         StreamAggregation::Histogram(boundaries) => {
             let parameters = HistogramParameters {
@@ -45,7 +45,7 @@ pub fn dense_table(
                 keeps_sum: stream.kind.is_monotonic(),
             };
             let table = DenseOf::new(alloc, keys, kept, &parameters)?;
-            Ok(DenseTable::Histogram(table))
+            Ok(Either::Right(Either::Right(table)))
         }
     }
 }

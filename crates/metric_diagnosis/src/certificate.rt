@@ -12,7 +12,7 @@ use std::alloc::{AllocError, Global};
 use std::fmt;
 
 /// What a person is told of a fault of a certificate's text: where it breaks off, or the first table that is none of a
-/// certificate. Fails only where memory is refused.
+/// certificate. Fails only when out of memory.
 pub fn diagnose_certificate<'t>(
     alloc: Global,
     source: NamedText<'t>,
@@ -36,8 +36,8 @@ const SHAPE: &str =
     "the tables are not those of a certificate: it was altered, or is of another format; make it anew";
 
 /// What a person is told of a certificate that was read and is not accepted: that it is of other files or was altered,
-/// what the check compared, and the number of the entry that it stopped at. It has no position. Fails only where memory
-/// is refused.
+/// what the check compared, and the number of the entry that it stopped at. It has no position. Fails only when out of
+/// memory.
 pub fn diagnose_check<'t>(
     alloc: Global,
     source: NamedText<'t>,

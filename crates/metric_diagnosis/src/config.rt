@@ -10,8 +10,7 @@ use metric_views::ViewFault;
 use std::alloc::{AllocError, Global};
 
 /// What a person is told of a fault of a config's text: the place of its field, and what is wrong with it. Of another
-/// text or another fault than `Config::read` answers of it the words may be less exact. Fails only where memory is
-/// refused.
+/// text or another fault than `Config::read` answers of it the words may be less exact. Fails only when out of memory.
 pub fn diagnose_config<'t>(
     alloc: Global,
     source: NamedText<'t>,

@@ -16,7 +16,7 @@ use std::alloc::{AllocError, Global};
 
 /// What a person is told of a fault that keeps a stream from a way out, and the remedy. The place is the view of the
 /// stream, else its instrument; of a stream that is a delta, its reader. The streams are those that the pair gives.
-/// Fails only where memory is refused.
+/// Fails only when out of memory.
 pub fn diagnose_exposure<'t>(
     alloc: Global,
     pair: Pair<'t>,

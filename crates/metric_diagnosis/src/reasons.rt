@@ -118,7 +118,8 @@ pub(crate) fn of_repeated<'v>(value: Option<&'v Value>) -> Wrong<'v> {
     ABSENT
 }
 
-// Why a text is no name of an instrument. A name is tried before it takes memory, so where that is refused it is one.
+// Why a text is no name of an instrument. A name is tried before memory is allocated for it, so if that runs out it is
+// one.
 pub(crate) fn of_name<'v>(alloc: Global, value: Option<&'v Value>) -> Wrong<'v> {
     let Some(text) = text_of(value) else {
         return of_value(value, "text");

@@ -21,8 +21,8 @@ use std::alloc::{AllocError, Global};
 /// reader that has no stream, or delta streams of what has a level, has its own place. Two streams of one identity
 /// stand at the view of the later one, else of the first; budgets that give a stream more series than its limit, at its
 /// view, else at its reader; buckets that tell nothing, at the view or the instrument; that there is no recorder or no
-/// reader, at the top. Of a remark that `lint` does not give on this pair the words may be less exact. Fails only where
-/// memory is refused.
+/// reader, at the top. Of a remark that `lint` does not give on this pair the words may be less exact. Fails only when
+/// out of memory.
 pub fn diagnose_remark<'t>(
     alloc: Global,
     pair: Pair<'t>,

@@ -19,7 +19,7 @@ pub(crate) fn told_of_toml(
     }
 }
 
-// Why a text is no TOML, unless memory was refused.
+// Why a text is not TOML, unless memory ran out.
 pub(crate) fn told_of_error(alloc: Global, error: Error) -> Result<String, AllocError> {
     if error.is_memory() {
         return Err(AllocError);
@@ -28,7 +28,7 @@ pub(crate) fn told_of_error(alloc: Global, error: Error) -> Result<String, Alloc
     format!(in alloc; "not valid TOML: {message}")
 }
 
-// What is told where memory was refused.
+// What is reported when out of memory.
 pub(crate) const MEMORY: &str = "out of memory";
 
 pub(crate) fn want_of_memory(alloc: Global) -> Result<String, AllocError> {

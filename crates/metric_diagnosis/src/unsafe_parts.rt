@@ -20,7 +20,7 @@ use std::alloc::{AllocError, Global};
 /// streams or the instrument that it is about, and the greatest total of budgets that would do. The file is the config
 /// for two streams of one identity, at the view of the later one, else of the first, and for too many series, at the
 /// view of the stream, else at its reader. Else it is the catalogue, at the instrument. Of another fault than `make`
-/// answers of this pair the words may be less exact. Fails only where memory is refused.
+/// answers of this pair the words may be less exact. Fails only when out of memory.
 pub fn diagnose_make<'t>(
     alloc: Global,
     pair: Pair<'t>,

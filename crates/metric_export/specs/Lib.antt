@@ -8,4 +8,3 @@ pub mod Keepings
 pub mod Reopens
 pub mod ExporterCalls
 pub mod Calls
-pub mod Ticks

@@ -132,7 +132,7 @@ answered told is_in =
 -- A batch was handed in to a queue that takes calls: those that were kept and then the new one were
 -- exported in order up to the first that was refused, unless this export was to be let pass. What is
 -- left is kept, but for the oldest that are more than may be kept. Only a batch that did not go out
--- is not kept: for want of memory, or since none may be.
+-- is not kept: because memory ran out or none may be kept.
 pub record HandsInOpen {E : Type 0}
     (exports : Exporting E)
     (old new : QueuedValue E)
@@ -163,11 +163,10 @@ abbrev pub are_own : PlanValue → List Batch → Batch → Bool
 are_own plan kept batch = is_own plan batch && list_all (is_own plan) kept
 
 -- # what a queue does (profile) [HandsIn, TriesAll, is_due, longer, RetriesKept, PassesFlush,
--- PassesShutdown]
--- Batches are exported in order, each once, up to the first that is refused, unless it lets an
--- export pass; what is left is kept, but for the oldest that are more than may be kept, and for a
--- batch that finds no memory. A new try exports all that is kept at once. Neither does anything
--- where one of these is of another plan.
+-- PassesShutdown] Batches are exported in order, each once, up to the first that is refused, unless
+-- it lets an export pass; what is left is kept, but for the oldest that are more than may be kept,
+-- and for a batch for which memory runs out. A new try exports all that is kept at once. Neither
+-- does anything where one of these is of another plan.
 pub record HandsIn {E : Type 0}
     (exports : PlanValue → Exporting E)
     (old new : QueuedValue E)

@@ -39,7 +39,7 @@ left_open sink (Err fault.Memory) = Some sink
 left_open sink (Err fault.Kept) = Some sink
 left_open sink (Err fault.OtherPlan) = Some sink
 
--- what a write is answered by: Write exactly where the sink failed, and for want of memory the sink
+-- what a write is answered by: Write exactly where the sink failed, and when out of memory the sink
 -- was not asked
 abbrev pub AnswersWrite : {W : Type 0} → (W → ℕ) → W → W → Result (Unit {0}) ExportFault → Type 0
 AnswersWrite failures old new (Ok done) = failures new ≡ failures old

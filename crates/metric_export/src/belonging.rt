@@ -8,8 +8,8 @@ use crate::fault::ExportFault;
 use metric_history::Batch;
 use metric_plan::Plan;
 
-/// Refuses a batch of another plan, as each exporter does before anything else but a shutdown: its numbers mean other names
-/// there. An exporter of one's own begins with it.
+/// Refuses a batch of another plan, as each exporter does before anything else but a shutdown: its numbers mean other
+/// names there. An exporter of one's own begins with it.
 ///
 /// # Errors
 ///

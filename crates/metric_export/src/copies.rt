@@ -6,7 +6,7 @@ use metric_base::{Copied, Items};
 use metric_history::{Batch, Point, StreamPoints};
 use std::alloc::{AllocError, Global};
 
-/// A copy of a batch, equal to it. Fails only where memory is refused.
+/// A copy of a batch, equal to it. Fails only when out of memory.
 pub fn copy_batch(alloc: Global, batch: &Batch) -> Result<Batch, AllocError>
     ensures { IfOk result (λ copied. copied ≡ batch.now) }
 {

@@ -16,8 +16,7 @@ pub trait Encoding {
     // The bytes of a batch of a plan.
     ghost text: { Self → PlanValue → Batch → List ℕ };
 
-    /// Puts the bytes of a batch of the plan last. Fails only where memory is refused, and some of them may then
-    /// be there.
+    /// Puts the bytes of a batch of the plan last. Fails only when out of memory, and some of them may then be there.
     fn push(
         &self,
         alloc: Global,

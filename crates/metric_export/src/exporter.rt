@@ -56,8 +56,8 @@ pub trait MetricExporter {
     /// - [`ExportFault::ShutDown`] exactly where the exporter was shut down.
     /// - [`ExportFault::Memory`], and nothing was handed on.
     /// - [`ExportFault::Kept`], and the exporter keeps the batch, to try it again by itself.
-    /// - [`ExportFault::OtherPlan`] where the batch is of another plan, unless the exporter was shut down or is broken: then it
-    ///   answers that. One that keeps batches answers it also where one of these is of another plan.
+    /// - [`ExportFault::OtherPlan`] where the batch is of another plan, unless the exporter was shut down or is broken:
+    ///   then it answers that. One that keeps batches answers it also where one of these is of another plan.
     fn export(&mut self, alloc: Global, plan: &Plan, batch: &Batch) -> Result<(), ExportFault>
         ensures text { Exports (contents self.old) (contents self.new)
             (text self.old plan.now batch.now) result }
@@ -80,13 +80,13 @@ pub trait MetricExporter {
         ensures gives { flush_gives self.old self.new result };
 
     /// Tries again at once what the exporter keeps of earlier calls, as at the end of a service. An exporter that never
-    /// answers [`ExportFault::Kept`] keeps nothing, and has nothing to write here. Nothing is appended that contracts know:
-    /// one that keeps batches tells no `contents`.
+    /// answers [`ExportFault::Kept`] keeps nothing, and has nothing to write here. Nothing is appended that contracts
+    /// know: one that keeps batches tells no `contents`.
     ///
     /// # Errors
     ///
-    /// [`ExportFault::Kept`] where something is kept still, [`ExportFault::OtherPlan`] where something of another plan is, and what
-    /// an exporter of batches says else.
+    /// [`ExportFault::Kept`] where something is kept still, [`ExportFault::OtherPlan`] where something of another plan
+    /// is, and what an exporter of batches says else.
     fn retry(&mut self, alloc: Global, plan: &Plan) -> Result<(), ExportFault>
         ensures text { Keeps (contents self.old) (contents self.new) }
         ensures same_text { text self.new ≡ text self.old }

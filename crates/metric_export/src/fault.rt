@@ -14,9 +14,10 @@ pub enum ExportFault {
     Write,
     /// The exporter was shut down before.
     ShutDown,
-    /// Memory was refused. Nothing of the batch was written.
+    /// Out of memory. Nothing of the batch was written.
     Memory,
-    /// The batch did not go out. The exporter keeps it, and tries it again later: who hands it in again exports it twice.
+    /// The batch did not go out. The exporter keeps it, and tries it again later: who hands it in again exports it
+    /// twice.
     Kept,
     /// The batch, or one that the exporter keeps, is of another plan than the call's. Nothing was changed.
     OtherPlan,

@@ -14,8 +14,9 @@ use metric_plan::Plan;
 use std::alloc::Global;
 use std::marker::Model;
 
-/// An exporter that keeps a copy of each batch in memory, for tests of a service (Metrics SDK, in-memory exporter). It writes
-/// nothing, and only want of memory, a shutdown and another plan refuse a batch. Contracts see the batches, in order, and its state.
+/// An exporter that keeps a copy of each batch in memory, for tests of a service (Metrics SDK, in-memory exporter). It
+/// writes nothing, and a batch is refused only when out of memory, after a shutdown, or if it is of another plan.
+/// Contracts see the batches, in order, and its state.
 ///
 /// A [`ListTicker`](crate::ListTicker) is the ticker by hand that goes with it.
 #[derive(Drop)]

@@ -15,9 +15,9 @@ use std::alloc::{AllocError, Global};
 /// The key of the overflow point's only attribute (Metrics SDK, overflow attribute).
 const OVERFLOW_KEY: &str = "otel.metric.overflow";
 
-/// The attributes of a point of a stream: of the keys that the stream's instrument declares, in declared order, those that
-/// the stream keeps and that are present, each with its value. The overflow point has the one attribute
-/// `otel.metric.overflow` with the value true. Fails only where memory is refused.
+/// The attributes of a point of a stream: of the keys that the stream's instrument declares, in declared order, those
+/// that the stream keeps and that are present, each with its value. The overflow point has the one attribute
+/// `otel.metric.overflow` with the value true. Fails only when out of memory.
 pub fn attributes<'a>(
     alloc: Global,
     plan: &'a Plan,

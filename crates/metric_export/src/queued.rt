@@ -22,22 +22,22 @@ use std::marker::Model;
 // The longest pause between two tries, in exports.
 const LONGEST_PAUSE: u32 = 63;
 
-/// An exporter that keeps the batches which the exporter below it refused, up to a number of them, and tries them again, the
-/// oldest first, before the next one. So a delta window survives an export that failed.
+/// An exporter that keeps the batches which the exporter below it refused, up to a number of them, and tries them
+/// again, the oldest first, before the next one. So a delta window survives an export that failed.
 ///
-/// Each batch that is handed in goes out once, in order, or is kept, or is told as lost: [`dropped`](Queued::dropped) counts
-/// the oldest ones that had to go since more may not be kept, [`unkept`](Queued::unkept) those that were not kept, for want of
-/// memory or since none may be. An export answers [`ExportFault::Kept`] where the batch did not go out and is kept, and
-/// [`ExportFault::Memory`] where it is not: then nobody has it. Where the exporter below wrote a part of a batch, it is still
-/// tried again as a whole. A batch of another plan than a kept one is refused by [`ExportFault::OtherPlan`], so a queue serves
-/// providers of one plan.
+/// Each batch that is handed in goes out once, in order, or is kept, or is told as lost: [`dropped`](Queued::dropped)
+/// counts the oldest ones that had to go since more may not be kept, [`unkept`](Queued::unkept) those that were not
+/// kept, because memory ran out or none may be kept. An export answers [`ExportFault::Kept`] where the batch did not go
+/// out and is kept, and [`ExportFault::Memory`] where it is not: then nobody has it. Where the exporter below wrote a
+/// part of a batch, it is still tried again as a whole. A batch of another plan than a kept one is refused by
+/// [`ExportFault::OtherPlan`], so a queue serves providers of one plan.
 ///
-/// After a try that failed the next export only keeps its batch; after another one the next 3, then 7 and so on up to 63, as
-/// long as something is kept. So a device that is out is not asked for each batch. [`retry`](MetricExporter::retry) tries at once, as a reader and a service do
-/// at their end.
+/// After a try that failed the next export only keeps its batch; after another one the next 3, then 7 and so on up to
+/// 63, as long as something is kept. So a device that is out is not asked for each batch.
+/// [`retry`](MetricExporter::retry) tries at once, as a reader and a service do at their end.
 ///
-/// What is still kept at the end, as after a shutdown, [`into_parts`](Queued::into_parts) hands back, and another queue can be
-/// begun [with it](Queued::with_kept). A batch that is kept takes the memory of a copy.
+/// What is still kept at the end, as after a shutdown, [`into_parts`](Queued::into_parts) hands back, and another queue
+/// can be begun [with it](Queued::with_kept). A batch that is kept takes the memory of a copy.
 #[derive(Drop)]
 pub struct Queued<E> {
     inner: E,
@@ -79,8 +79,8 @@ impl<E: MetricExporter> Queued<E> {
         Queued::with_kept(inner, Vec::new(alloc), most)
     }
 
-    /// The same, begun with batches that are kept, the oldest first, as [`into_parts`](Queued::into_parts) hands them back.
-    /// Where they are more than may be kept, the oldest go with the next export.
+    /// The same, begun with batches that are kept, the oldest first, as [`into_parts`](Queued::into_parts) hands them
+    /// back. Where they are more than may be kept, the oldest go with the next export.
     pub fn with_kept(inner: E, kept: Vec<Batch>, most: usize) -> Queued<E>
         ensures { result ≡ new_queue inner kept.items most }
     {
@@ -119,7 +119,7 @@ impl<E: MetricExporter> Queued<E> {
         self.dropped
     }
 
-    /// How many batches were refused and not kept, for want of memory or since none may be, up to 2^64 - 1.
+    /// How many batches were refused and not kept, because memory ran out or none may be kept, up to 2^64 - 1.
     pub fn unkept(&self) -> u64
         ensures { result ≡ self.now.unkept }
     {
@@ -232,8 +232,8 @@ impl<E: MetricExporter> MetricExporter for Queued<E> {
     }
 }
 
-/// Over a whole run, the batches that went out, were dropped or are still kept are those with which the queue was begun and
-/// those that were handed in and kept or sent, each once and in order. Does nothing.
+/// Over a whole run, the batches that went out, were dropped or are still kept are those with which the queue was begun
+/// and those that were handed in and kept or sent, each once and in order. Does nothing.
 #[tactic(auto, using(crate::proofs::QueueLaws::accounted))]
 pub fn every_batch_is_accounted_for()
     ensures { IsAccounted }
@@ -269,8 +269,8 @@ fn try_when_due<E: MetricExporter>(
     }
 }
 
-// Exports the kept batches and then another one, in order, up to the first that is refused. How many went out, and the last
-// answer.
+// Exports the kept batches and then another one, in order, up to the first that is refused. How many went out, and the
+// last answer.
 fn try_all<E: MetricExporter>(
     inner: &mut E,
     alloc: Global,
@@ -391,8 +391,8 @@ fn longer(pause: u32) -> u32
     }
 }
 
-// Keeps what is left of the kept batches and one more, after so many that went out, and lets go of the oldest that are more
-// than may be kept. Whether the last one went out or was kept, and how many were let go.
+// Keeps what is left of the kept batches and one more, after so many that went out, and lets go of the oldest that are
+// more than may be kept. Whether the last one went out or was kept, and how many were let go.
 fn keep(
     alloc: Global,
     kept: &mut Vec<Batch>,

@@ -20,8 +20,8 @@ use std::marker::Model;
 
 /// What opens sinks, as a log's next file or a new connection.
 ///
-/// Contracts see what it says of its calls, by which a caller can promise that each sink that it writes to is one that was
-/// given.
+/// Contracts see what it says of its calls, by which a caller can promise that each sink that it writes to is one that
+/// was given.
 pub trait OpenSink<W> {
     // What opening does to the opener, by the answer.
     ghost opens: { Self → Self → Result W Broken → Type 0 };
@@ -34,10 +34,10 @@ pub trait OpenSink<W> {
 /// An exporter that writes each batch to a sink, as its text or in another encoding, and after a failure opens a
 /// new one at the next export.
 ///
-/// A sink that failed is let go, so what was written to a sink is whole texts, one after the other, but for the last, which
-/// may be a prefix. A batch whose export failed is not written again: a [`Queued`](crate::Queued) over this exporter tries
-/// that. Contracts see the encoding, what opens the sinks, the open sink, the count of the calls that failed, and the
-/// state.
+/// A sink that failed is let go, so what was written to a sink is whole texts, one after the other, but for the last,
+/// which may be a prefix. A batch whose export failed is not written again: a [`Queued`](crate::Queued) over this
+/// exporter tries that. Contracts see the encoding, what opens the sinks, the open sink, the count of the calls that
+/// failed, and the state.
 #[derive(Drop)]
 pub struct ReopeningExporter<O, W, E = Plain> {
     encoding: E,

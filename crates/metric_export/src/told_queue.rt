@@ -12,8 +12,8 @@ use std::alloc::Global;
 use std::marker::Model;
 use std::sync::atomic::{AtomicU64, Ordering};
 
-/// What a queue has done so far, for other threads to read while a reader has it. Threads share it by reference; each count
-/// stops at 2^64 - 1.
+/// What a queue has done so far, for other threads to read while a reader has it. Threads share it by reference; each
+/// count stops at 2^64 - 1.
 ///
 /// The queue sets the counts after each call. A thread may read one count before and another after that.
 #[derive(Drop)]

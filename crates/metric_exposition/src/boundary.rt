@@ -6,8 +6,8 @@ use itoa::Buffer;
 use metric_text::{push_byte, push_number, push_text};
 use std::alloc::AllocError;
 
-/// Writes a boundary as Prometheus writes the double of its value, so that a server has no reason to write it anew: up to
-/// six digits with `.0` behind them, more with an exponent. Exact for the boundaries that are exact as doubles.
+/// Writes a boundary as Prometheus writes the double of its value, so that a server has no reason to write it anew: up
+/// to six digits with `.0` behind them, more with an exponent. Exact for the boundaries that are exact as doubles.
 pub(crate) fn push_boundary(out: &mut Vec<u8>, boundary: i64) -> Result<(), AllocError>
     ensures { OnOk result (out.new.items ≡ out.old.items ++ le_text boundary) }
 {

@@ -9,8 +9,8 @@ pub enum Dialect {
     Text,
     /// OpenMetrics 1.0: `application/openmetrics-text; version=1.0.0`.
     OpenMetrics,
-    /// The same with a line `_created` for each counter and histogram: when its points begin. A server that does not take
-    /// it as that keeps it as a series more.
+    /// The same with a line `_created` for each counter and histogram: when its points begin. A server that does not
+    /// take it as that keeps it as a series more.
     OpenMetricsCreated,
 }
 

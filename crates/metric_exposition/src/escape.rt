@@ -5,8 +5,8 @@ ghost use Rattle.metric_exposition.specs.LabelTexts.{escape, escaped};
 use metric_text::{push_byte, push_text};
 use std::alloc::AllocError;
 
-/// Writes a text: a backslash and a line feed with a backslash before them, quotes too where they are escaped, and every
-/// other byte as itself.
+/// Writes a text: a backslash and a line feed with a backslash before them, quotes too where they are escaped, and
+/// every other byte as itself.
 #[tactic(auto, unfolding(crate::specs::LabelTexts::escaped), using(metric_text::specs::ListLaws::steps))]
 pub(crate) fn push_escaped(out: &mut Vec<u8>, quotes: bool, text: &[u8]) -> Result<(), AllocError>
     ensures { OnOk result (out.new.items ≡ out.old.items ++ escaped quotes text.now) }

@@ -22,10 +22,10 @@ use std::alloc::{AllocError, Global};
 /// Writes the lines of a batch: for each stream that has points a metric family with its lines of help, type and, in
 /// OpenMetrics, unit, and then the lines of its points. No time stands in them.
 ///
-/// The streams are those of the plan, numbered from 0. A batch of no instrument of the catalogue is nothing, and a stream
-/// whose number is not there is left out. Every number is exact. The names of families and labels are those that Prometheus
-/// and the OpenTelemetry Collector make; that they differ from each other, and that a point is cumulative, is for the caller
-/// to know. Fails only where memory is refused, and may then have written a part.
+/// The streams are those of the plan, numbered from 0. A batch of no instrument of the catalogue is nothing, and a
+/// stream whose number is not there is left out. Every number is exact. The names of families and labels are those that
+/// Prometheus and the OpenTelemetry Collector make; that they differ from each other, and that a point is cumulative,
+/// is for the caller to know. Fails only when out of memory, and may then have written a part.
 #[tactic(auto, unfolding(crate::specs::Expositions::exposition))]
 pub fn push_exposition(
     alloc: Global,

@@ -42,8 +42,8 @@ pub(crate) fn push_histogram(
     push_created(out, series)
 }
 
-// Writes a line for each boundary and at last for all: how many values are at most as great. Each count has 64 bits, so that
-// their sum needs more.
+// Writes a line for each boundary and at last for all: how many values are at most as great. Each count has 64 bits, so
+// that their sum needs more.
 fn push_buckets(
     out: &mut Vec<u8>,
     series: &Series<'_>,

@@ -91,7 +91,7 @@ fn push_target_info(
     push_sample(out, &series, "", Piece::Text("1"))
 }
 
-/// Writes what a page ends with: in OpenMetrics `# EOF`, else nothing. Fails only where memory is refused.
+/// Writes what a page ends with: in OpenMetrics `# EOF`, else nothing. Fails only when out of memory.
 pub fn push_end(out: &mut Vec<u8>, dialect: Dialect) -> Result<(), AllocError>
     ensures { OnOk result (out.new.items ≡ out.old.items ++ end_text dialect) }
 {

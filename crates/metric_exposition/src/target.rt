@@ -12,8 +12,8 @@ use metric_resource::Resource;
 use std::alloc::{AllocError, Global};
 use thiserror::Error;
 
-/// Why the attributes of a resource can't be the labels of one line, in the order in which the faults of an attribute are
-/// tried. An attribute is told by its place, counted from 0.
+/// Why the attributes of a resource can't be the labels of one line, in the order in which the faults of an attribute
+/// are tried. An attribute is told by its place, counted from 0.
 #[derive(Clone, Copy, Debug, PartialEq, Eq, Drop, Error)]
 pub enum TargetFault {
     /// The key has no letter and no digit, so that its label says nothing.
@@ -30,7 +30,7 @@ pub enum TargetFault {
         /// The first later one of the same label.
         other: usize,
     },
-    /// Memory was refused.
+    /// Out of memory.
     #[error("3 Memory")]
     Memory,
 }

@@ -37,7 +37,7 @@ pub fn expose_to_otlp(plan: &Plan, reader: u32) -> Result<(), ExposureFault>
 }
 
 /// All faults of the streams of a reader for a way out, stream by stream in order. The streams are numbered from 0; the
-/// reader is told by its number. Fails only where memory is refused.
+/// reader is told by its number. Fails only when out of memory.
 pub fn exposure_faults(
     alloc: Global,
     catalogue: &Catalogue,

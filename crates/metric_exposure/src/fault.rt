@@ -52,7 +52,7 @@ pub enum ExposureFault {
         /// The key.
         key: usize,
     },
-    /// Memory was refused.
+    /// Out of memory.
     Memory,
 }
 

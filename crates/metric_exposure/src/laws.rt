@@ -28,8 +28,8 @@ pub fn series_are_apart()
     ensures { SeriesAreApart }
 {}
 
-/// Where a reader's streams pass for pages, no two points of a window of recordings are shown with the same labels, nor is the
-/// overflow point shown as a series. Does nothing.
+/// Where a reader's streams pass for pages, no two points of a window of recordings are shown with the same labels, nor
+/// is the overflow point shown as a series. Does nothing.
 pub fn points_are_apart()
     ensures { PointsAreApart }
 {

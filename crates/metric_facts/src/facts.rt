@@ -121,7 +121,7 @@ impl Model for Facts {
 }
 
 impl Facts {
-    /// The facts that fields say. Fails only where memory is refused.
+    /// The facts that fields say. Fails only when out of memory.
     pub fn new(alloc: Global, fields: FactsFields) -> Result<Facts, AllocError>
         ensures { IfOk result (λ facts. facts ≡ fields) }
     {

@@ -427,7 +427,7 @@ fn write_instrument(bytes: &mut Vec<u8>, facts: &FactsFields) -> Result<(), Allo
     write_list(bytes, facts.delta.as_slice())
 }
 
-/// The bytes of facts. Fails only where memory is refused.
+/// The bytes of facts. Fails only when out of memory.
 pub fn flat_facts(alloc: Global, facts: &FactsFields) -> Result<Vec<u8>, AllocError>
     ensures { IfOk result (λ bytes. bytes.items ≡ flat_facts facts.now) }
 {

@@ -19,8 +19,8 @@ pub fn is_full_set(keys: &[KeyFacts], entries: &[u16]) -> bool
     }
 }
 
-/// Whether a set key is a full set of the keys, and one of the allowed combinations where these are listed.
-/// Takes no memory.
+/// Whether a set key is a full set of the keys, and one of the allowed combinations where these are listed. Allocates
+/// no memory.
 pub fn is_allowed_set(facts: &FactsFields, set: &SetKey) -> bool
     ensures { result ≡ is_allowed_set facts.now set.now }
 {

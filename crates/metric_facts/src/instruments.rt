@@ -150,9 +150,9 @@ fn sealed(alloc: Global, all: Vec<FactsFields>) -> Result<Items<Facts>, AllocErr
     Ok(sealed)
 }
 
-/// The facts of each instrument of a catalogue, in a plan of this fingerprint, for the readers of a config and all their streams, of which
-/// each has its place among them as its number. The flags say which streams are by product, in the same order; those
-/// without a flag are not. Fails only where memory is refused.
+/// The facts of each instrument of a catalogue, in a plan of this fingerprint, for the readers of a config and all
+/// their streams, of which each has its place among them as its number. The flags say which streams are by product, in
+/// the same order; those without a flag are not. Fails only when out of memory.
 pub fn all_facts(
     alloc: Global,
     plan: u64,

@@ -14,8 +14,8 @@ use metric_views::{Stream, StreamAggregation};
 use std::alloc::{AllocError, Global};
 
 /// The name of a stream's family, without the `_total` of a counter's samples: the words of its name and those of its
-/// unit, with `_` between. It is empty where no word is left, as of a counter that is called `total`. Fails only where
-/// memory is refused.
+/// unit, with `_` between. It is empty where no word is left, as of a counter that is called `total`. Fails only when
+/// out of memory.
 #[tactic(auto, unfolding(crate::specs::Families::family))]
 pub fn family_of(alloc: Global, stream: &Stream) -> Result<Text, AllocError>
     ensures { IfOk result (λ name. name ≡ family stream.now) }
@@ -25,8 +25,8 @@ pub fn family_of(alloc: Global, stream: &Stream) -> Result<Text, AllocError>
     Ok(text_of_ascii(name))
 }
 
-/// What `# UNIT` says of a stream's family (OpenMetrics): the words of its unit, where the family's name ends with them;
-/// else the empty text. Fails only where memory is refused.
+/// What `# UNIT` says of a stream's family (OpenMetrics): the words of its unit, where the family's name ends with
+/// them; else the empty text. Fails only when out of memory.
 #[tactic(auto, unfolding(crate::specs::Families::unit_text))]
 pub fn unit_text_of(alloc: Global, stream: &Stream) -> Result<Text, AllocError>
     ensures { IfOk result (λ text. text ≡ unit_text stream.now) }

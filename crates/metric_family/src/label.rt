@@ -10,7 +10,7 @@ use metric_text::{push_byte, push_signed, push_text};
 use std::alloc::{AllocError, Global};
 
 /// The label of a key: each run of others than ASCII letters and digits is one `_`, and `key_` stands before a digit at
-/// the front. Fails only where memory is refused.
+/// the front. Fails only when out of memory.
 pub fn label_of(alloc: Global, key: &str) -> Result<Text, AllocError>
     ensures { IfOk result (λ label. label ≡ label_of key.now) }
 {
@@ -19,7 +19,7 @@ pub fn label_of(alloc: Global, key: &str) -> Result<Text, AllocError>
     Ok(text_of_ascii(out))
 }
 
-/// Writes the label of a key. Fails only where memory is refused, and may then have written a part of it.
+/// Writes the label of a key. Fails only when out of memory, and may then have written a part of it.
 #[tactic(auto, unfolding(crate::specs::Labels::label_of))]
 pub fn push_label(out: &mut Vec<u8>, key: &str) -> Result<(), AllocError>
     ensures { OnOk result (out.new.items ≡ out.old.items ++ label_of key.now) }
@@ -62,7 +62,7 @@ pub fn is_bad_label(label: &str) -> bool
     label == "_" || label.is_empty()
 }
 
-/// The text of a value: a text as it stands, a number in decimal, `true` or `false`. Fails only where memory is refused.
+/// The text of a value: a text as it stands, a number in decimal, `true` or `false`. Fails only when out of memory.
 pub fn text_of(alloc: Global, value: &AttrValue) -> Result<Text, AllocError>
     ensures { IfOk result (λ text. text ≡ value_text value.now) }
 {
@@ -70,7 +70,7 @@ pub fn text_of(alloc: Global, value: &AttrValue) -> Result<Text, AllocError>
     Ok(Text::from_string(string))
 }
 
-/// Writes the text of a value. Fails only where memory is refused.
+/// Writes the text of a value. Fails only when out of memory.
 pub fn push_value(out: &mut Vec<u8>, value: &AttrValue) -> Result<(), AllocError>
     ensures { OnOk result (out.new.items ≡ out.old.items ++ value_text value.now) }
 {

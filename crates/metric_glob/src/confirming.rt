@@ -142,7 +142,7 @@ fn shuts_out(pattern: &[u8], text: &[u8], rows: &[Items<u16>]) -> bool
     begins && !ends && are_closed(pattern, text, rows)
 }
 
-// Whether a reason is true of a pattern and a text. Takes no memory.
+// Whether a reason is true of a pattern and a text. Allocates no memory.
 pub(crate) fn is_confirmed(pattern: &[u8], text: &[u8], reason: &Reason) -> bool
     requires short { length pattern.now < 2 ^ 16 }
     requires short_text { length text.now < 2 ^ 16 }

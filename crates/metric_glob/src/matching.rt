@@ -5,7 +5,7 @@ ghost use Rattle.metric_glob.specs.Matching.{is_match};
 use crate::characters::is_star;
 use crate::walk::Walk;
 
-// Whether the text matches. Takes no memory.
+// Whether the text matches. Allocates no memory.
 pub(crate) fn matches_text(pattern: &[u8], text: &[u8]) -> bool
     ensures { result ≡ is_match pattern.now text.now }
 {

@@ -49,7 +49,7 @@ pub enum PatternFault {
     /// The text has more than 255 characters.
     #[error("3 TooLong")]
     TooLong,
-    /// Memory was refused.
+    /// Out of memory.
     #[error("4 Memory")]
     Memory,
 }
@@ -77,7 +77,7 @@ impl Pattern {
         Ok(Pattern { text })
     }
 
-    /// The pattern that every name matches, `*`. Fails only where memory is refused.
+    /// The pattern that every name matches, `*`. Fails only when out of memory.
     pub fn any(alloc: Global) -> Result<Pattern, AllocError>
         ensures { IfOk result (λ pattern. pattern ≡ any_text ∷ []) }
     {
@@ -95,7 +95,7 @@ impl Pattern {
         self.text.as_str()
     }
 
-    /// Whether a name matches (Metrics SDK, instrument selection criteria, name). Takes no memory.
+    /// Whether a name matches (Metrics SDK, instrument selection criteria, name). Allocates no memory.
     pub fn matches(&self, name: &Name) -> bool
         ensures test { IsTrue result ↔ Matches self.now name.now }
         ensures value { result ≡ is_match self.now name.now }
@@ -103,8 +103,8 @@ impl Pattern {
         matches_text(self.as_str().as_bytes(), name.as_str().as_bytes())
     }
 
-    /// Whether a reason is true of this pattern and a name, by looking at nothing but the reason's own
-    /// numbers. A reason may have any numbers whatever. Takes no memory.
+    /// Whether a reason is true of this pattern and a name, by looking at nothing but the reason's own numbers. A
+    /// reason may have any numbers whatever. Allocates no memory.
     pub fn confirms(&self, name: &Name, reason: &Reason) -> bool
         ensures confirmed { IsTrue result ↔ Confirms self.now name.now reason.now }
         ensures shown { IsTrue result → Shows self.now name.now reason.now }
@@ -112,8 +112,8 @@ impl Pattern {
         is_confirmed(self.as_str().as_bytes(), name.as_str().as_bytes(), reason)
     }
 
-    /// Why a name matches, or why it does not: the first takes in list order, or the least rows. Fails
-    /// only where memory is refused.
+    /// Why a name matches, or why it does not: the first takes in list order, or the least rows. Fails only when out of
+    /// memory.
     pub fn why(&self, alloc: Global, name: &Name) -> Result<Reason, AllocError>
         ensures confirmed { IfOk result (Confirms self.now name.now) }
         ensures shown { IfOk result (Shows self.now name.now) }

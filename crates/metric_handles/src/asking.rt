@@ -11,8 +11,8 @@ use crate::recorded::Recorded;
 use crate::rooms::RoomsOf;
 use crate::seat::Seat;
 use crate::spares::{Found, Spares, find_room};
-use metric_book::Book;
 use metric_contents::{Attr, Refusal, SetKey};
+use metric_history::Book;
 use metric_plan::Plan;
 use metric_provider::{Gate, Measurement, Provider, Recorder, SetsFault};
 use std::alloc::{AllocError, Global};
@@ -25,8 +25,8 @@ use std::sync::Wait;
 /// room costs a comparison; asking takes the instrument's lock two to four times before the recording takes it.
 ///
 /// What is refused an ask is no refusal of the recording: a recording that has room is made, and one that has none is
-/// refused `Budget`, once, also where a [`Counted`](crate::Counted) seat counts it. Where another recorder takes what is
-/// left at the same moment, the next recording asks again.
+/// refused `Budget`, once, also where a [`Counted`](crate::Counted) seat counts it. Where another recorder takes what
+/// is left at the same moment, the next recording asks again.
 #[derive(Drop)]
 pub struct Asking<S = Recorder> {
     seat: S,
@@ -89,8 +89,8 @@ impl Known {
 }
 
 impl<S> Asking<S> {
-    /// The seat, which asks for so many recordings at once, on the instruments of a plan. Where memory is refused, the
-    /// seat is handed back.
+    /// The seat, which asks for so many recordings at once, on the instruments of a plan. When out of memory, the seat
+    /// is handed back.
     pub fn new(alloc: Global, plan: &Plan, seat: S, each: u64) -> Result<Asking<S>, (S, AllocError)>
         ensures made { IfOk result (λ asking. asking ≡ asking_of plan.now seat each) }
         ensures back { IfErr result (λ refused. refused.0 ≡ seat) }
@@ -135,7 +135,7 @@ impl<S: Recorded> Asking<S> {
     /// Sees that so many recordings more have room on an instrument, as for a job of several or work that is counted
     /// while it goes on, before which nothing else asks: what is missing is asked for, and at least as many as the seat
     /// asks for at once; where fewer are left, all of them. Nothing is refused: `has_room` of an `At` tells what there
-    /// is. Takes no memory.
+    /// is. Allocates no memory.
     pub fn make_room<R: Wait, B: Book, G: Gate>(
         &mut self,
         rt: &R,

@@ -5,8 +5,8 @@ ghost use Rattle.metric_handles.specs.Calls.{MakesByBound};
 
 use crate::kinds::{Adds, IsCounter, IsGauge, IsHistogram, IsUpDownCounter, Records};
 use crate::seat::Seat;
-use metric_book::Book;
 use metric_contents::{Refusal, SetKey};
+use metric_history::Book;
 use metric_provider::{Gate, Measurement, Provider};
 use std::marker::{Model, PhantomData};
 use std::sync::Wait;

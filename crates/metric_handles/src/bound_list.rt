@@ -6,8 +6,8 @@ ghost use Rattle.metric_handles.specs.Calls.{MakesByList, left_of};
 use crate::bound::Bound;
 use crate::kinds::{Adds, Records};
 use crate::seat::Seat;
-use metric_book::Book;
 use metric_contents::Refusal;
+use metric_history::Book;
 use metric_provider::{Gate, Measurement, Provider, SetsFault};
 use std::alloc::Global;
 use std::marker::{Model, PhantomData};
@@ -43,7 +43,7 @@ pub enum ListFault {
     /// The attributes are bound to another instrument than the list's, as that of another plan is.
     #[error("the attributes are bound to another instrument")]
     OtherInstrument,
-    /// Memory was refused.
+    /// Out of memory.
     #[error("no memory")]
     Memory,
 }

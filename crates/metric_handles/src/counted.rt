@@ -8,8 +8,8 @@ ghost use Rattle.metric_handles.specs.Calls.{MakesRecording, MakesRecordings, an
 ghost use Rattle.metric_handles.specs.Counts.{CountsAnswer, count_in, counted_of, counts_after, counts_of, no_counts, place_of, refused_before};
 
 use crate::seat::Seat;
-use metric_book::Book;
 use metric_contents::{Attr, Refusal, SetKey};
+use metric_history::Book;
 use metric_plan::Plan;
 use metric_provider::{Gate, Measurement, Provider, Recorder, SetsFault};
 use std::alloc::{AllocError, Global};
@@ -95,7 +95,7 @@ impl<S> Model for Counted<S> {
 
 impl<S> Counted<S> {
     /// The seat, which was refused nothing of the instruments of a plan. Takes 128 bytes for each instrument and as
-    /// many for all others. Where memory is refused, the seat is handed back.
+    /// many for all others. When out of memory, the seat is handed back.
     pub fn new(alloc: Global, plan: &Plan, seat: S) -> Result<Counted<S>, (S, AllocError)>
         ensures made { IfOk result (λ counted. counted ≡ counted_of plan.now seat) }
         ensures back { IfErr result (λ refused. refused.0 ≡ seat) }

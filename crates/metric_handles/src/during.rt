@@ -10,9 +10,9 @@ use crate::bound::BoundUpDownCounter;
 use crate::jobs::Need;
 use crate::recorded::Recorded;
 use crate::rooms::{Rooms, RoomsOf};
-use metric_book::Book;
 use metric_contents::Refusal;
 use metric_facts::Facts;
+use metric_history::Book;
 use metric_provider::{Gate, Recorder};
 use std::sync::Wait;
 

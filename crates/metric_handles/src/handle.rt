@@ -9,8 +9,8 @@ use crate::bound::Bound;
 use crate::bound_list::BoundList;
 use crate::kinds::{Adds, IsCounter, IsGauge, IsHistogram, IsUpDownCounter, Records};
 use crate::seat::Seat;
-use metric_book::Book;
 use metric_contents::{Attr, Refusal};
+use metric_history::Book;
 use metric_plan::Plan;
 use metric_provider::{Gate, Provider};
 use std::alloc::Global;
@@ -88,7 +88,7 @@ impl<K> Handle<K> {
 
     /// The attributes, bound to the instrument: they are looked up once, and recordings with them then bring the set
     /// key. A recording with three attributes at the call looks them up in some 40 ns, 2.5 times what a look-up by a
-    /// set key costs; a bound one leaves that out (`docs/PERFORMANCE.md`, "set key"). Takes no memory.
+    /// set key costs; a bound one leaves that out (`docs/PERFORMANCE.md`, "set key"). Allocates no memory.
     ///
     /// # Errors
     ///

@@ -6,8 +6,8 @@ use crate::at::At;
 use crate::handle::Handle;
 use crate::recorded::Recorded;
 use crate::rooms::{Rooms, RoomsOf};
-use metric_book::Book;
 use metric_contents::Refusal;
+use metric_history::Book;
 use metric_provider::{Gate, SetsFault};
 use std::sync::Wait;
 

@@ -1,8 +1,8 @@
 //! What keys are compared for at the start. The functions do nothing.
 ghost use Rattle.metric_handles.specs.KeysGiven.{BindsKeys, RecordsKeys};
 
-use metric_book::Book;
 use metric_contents::encode_ignores_order;
+use metric_history::Book;
 
 /// Attributes with just the keys with which a handle was found, in any order, are bound with the same contents, or
 /// refused for their values alone, as `UnknownValue` or `Combination`.

@@ -19,7 +19,7 @@ pub struct Refused {
 
 impl<S> Counted<S> {
     /// Each refusal that came, with how often: by instrument, and on each in the order in which refusals are tried.
-    /// Those that share a number ([`Refusal::number`]) are one. Fails only where memory is refused.
+    /// Those that share a number ([`Refusal::number`]) are one. Fails only when out of memory.
     pub fn refusals(&self, alloc: Global) -> Result<Vec<Refused>, AllocError>
         ensures { IfOk result (λ all. all.items ≡ refusals_of self.now.counts) }
     {

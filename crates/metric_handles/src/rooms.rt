@@ -4,8 +4,8 @@ ghost use Rattle.metric_contents.specs.declared.refusal.Refusal.{Refusal as refu
 ghost use Rattle.metric_handles.specs.declared.jobs.Need.{Need as needs};
 
 use crate::jobs::Need;
-use metric_book::Book;
 use metric_contents::Refusal;
+use metric_history::Book;
 use metric_provider::{Gate, Provider, Recorder};
 use std::sync::Wait;
 

@@ -10,8 +10,8 @@ ghost use Rattle.metric_seat.specs.declared.fault.SetsFault.{SetsFault as faults
 ghost use Rattle.metric_seat.specs.declared.keys.Measurement.{Measurement as measurements};
 ghost use Rattle.metric_handles.specs.Calls.{MakesRecording, MakesRecordings, answer_of, untried_of};
 
-use metric_book::Book;
 use metric_contents::{Attr, Refusal, SetKey};
+use metric_history::Book;
 use metric_provider::{Gate, Measurement, Provider, Recorder, SetsFault};
 use std::sync::Wait;
 

@@ -4,8 +4,8 @@ ghost use Rattle.metric_contents.specs.declared.refusal.Refusal.{Refusal as refu
 ghost use Rattle.metric_handles.specs.Asking.{FindsRoom, TakesRest};
 
 use crate::rooms::RoomsOf;
-use metric_book::Book;
 use metric_contents::Refusal;
+use metric_history::Book;
 use metric_provider::Gate;
 use std::sync::Wait;
 

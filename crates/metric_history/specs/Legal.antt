@@ -41,8 +41,8 @@ grant facts start h recorder instrument amount =
     require_some (slice_get facts.instruments instrument) UnknownInstrument >>= λ own.
     granting own (told_of facts start h instrument) recorder amount
 
--- Where nothing refuses a recording it is accepted, unless memory is
--- refused; else the reply is the refusal.
+-- Where nothing refuses a recording it is accepted, unless memory runs out; else the reply is the
+-- refusal.
 abbrev pub LegalRecord : Result Entry Refusal → Reply → Type 0
 LegalRecord (Ok entry) Accepted = Unit {0}
 LegalRecord (Ok entry) (Refused given) = given ≡ Memory
@@ -66,7 +66,7 @@ LegalGrant (Err refusal) (Refused given) = given ≡ refusal
 LegalGrant _ _ = ⊥
 
 -- # legal reply (profile) [Legal, AllLegal]
--- The refusal, where there is one; else Accepted, the batch, Done or Granted; want of memory only
+-- The refusal, where there is one; else Accepted, the batch, Done or Granted; out of memory only
 -- for recordings and collections that nothing else refuses.
 abbrev pub Legal : RunFacts → ℕ → History → Event → Reply → Type 0
 Legal facts start h (Record recorder instrument attrs value) reply =

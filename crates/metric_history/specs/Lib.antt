@@ -12,3 +12,5 @@ pub mod SeriesLaws
 pub mod SumLaws
 pub mod PointLaws
 pub mod AscendingLaws
+pub mod Journals
+pub mod Slips

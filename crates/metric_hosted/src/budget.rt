@@ -89,7 +89,7 @@ impl Hosted {
     }
 
     /// Asks for so many recordings of the recorder of a seat beside its budget, of what is left of the instrument's
-    /// spare budget. The plan is that of the seat. Takes no memory.
+    /// spare budget. The plan is that of the seat. Allocates no memory.
     ///
     /// # Errors
     ///

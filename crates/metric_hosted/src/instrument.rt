@@ -40,8 +40,7 @@ impl Model for Hosted {
 
 impl Hosted {
     /// The instrument of this number of a certified plan without recordings, since a start in nanoseconds, in the run
-    /// of this number. The start and the number of the run are the seed of its tables. Fails only where memory is
-    /// refused.
+    /// of this number. The start and the number of the run are the seed of its tables. Fails only when out of memory.
     pub fn new(
         alloc: Global,
         plan: &Plan,
@@ -87,8 +86,8 @@ impl Hosted {
         self.slot.close()
     }
 
-    /// Grants a recorder so many recordings beside its budget, of what is left of the instrument's spare budget. Takes
-    /// no memory.
+    /// Grants a recorder so many recordings beside its budget, of what is left of the instrument's spare budget.
+    /// Allocates no memory.
     ///
     /// # Errors
     ///
@@ -107,7 +106,7 @@ impl Hosted {
     }
 
     /// What the instrument comes to, by what the seats of all its recorders were told, in any order. It is exactly what
-    /// they were told. Takes no memory.
+    /// they were told. Allocates no memory.
     ///
     /// # Errors
     ///

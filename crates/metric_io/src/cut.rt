@@ -215,7 +215,7 @@ impl Sink for CutSink {
 
     ghost failures = { λ s. s.failures };
 
-    /// Fails too where memory is refused to the bytes.
+    /// Fails too when out of memory for the bytes.
     fn write(&mut self, buf: &[u8]) -> Result<usize, Broken>
         ensures full { 0 < length buf.now → self.old.room ≡ 0 → IsErr result }
         ensures answer { IfOk result (λ n. n ≡ taken_count self.old (length buf.now)) }

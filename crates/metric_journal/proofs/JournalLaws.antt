@@ -1,25 +1,21 @@
 -- What each call of the book that keeps the list does, for each journal for which the book stands.
-use Rattle.std.proofs.Common.{◌≡◌, ℕ, true, List, [], ◌∷◌, ◌++◌, Some, length, refl, sym, ap, subst, ◌∙◌}
-use Rattle.std.specs.Prelude.{slice_get, slice_index, slice_set}
+use Rattle.std.proofs.Common.{◌≡◌, ℕ, true, List, [], ◌∷◌, ◌++◌, length, refl, sym, ap, subst, ◌∙◌}
+use Rattle.std.specs.Prelude.{slice_index, slice_set}
 use Rattle.std.proofs.lemmas.List.{length-set, length-replicate}
-use Rattle.std.proofs.lemmas.Option.{same_Some}
 use Rattle.metric_history.specs.declared.entry.Entry.{Entry}
 use Rattle.metric_facts.specs.declared.facts.Facts.{Facts}
-use Rattle.metric_facts.specs.Facts.{RunFacts}
 use Rattle.metric_history.specs.Windows.{fits_all}
-use Rattle.metric_book.specs.Journals.{BeginsJournal, MovesMark, TakesRecording, no_marks}
+use Rattle.metric_history.specs.Journals.{BeginsJournal, MovesMark, TakesRecording, no_marks}
 use Rattle.metric_journal.specs.JournalStands.{JournalValue, StandsForList, empty_journal}
 use Rattle.metric_journal.proofs.RangeLaws.{windows-push, windows-marked, windows-none}
 
 -- a book of the facts, without recordings
-pub journal_begins : (run : RunFacts) (instrument : ℕ) (own : Facts) (book : JournalValue) → slice_get run.instruments instrument ≡ Some own
-    → book ≡ empty_journal own → BeginsJournal (StandsForList book) run instrument
-journal_begins run instrument own book found made facts asked =
-    let same : own ≡ facts = same_Some own facts (sym found ∙ asked) in
+pub journal_begins : (facts : Facts) (book : JournalValue) → book ≡ empty_journal facts → BeginsJournal (StandsForList book) facts
+journal_begins facts book made =
     subst (λ (b : JournalValue). StandsForList b facts [] (no_marks facts)) (sym made) (record {
-      same_facts = same;
+      same_facts = refl;
       same_entries = refl;
-      same_marks = ap no_marks same;
+      same_marks = refl;
       one_mark_each = length-replicate (length facts.delta) 0;
       in_range = windows-none facts (no_marks facts) facts.streams;
     })

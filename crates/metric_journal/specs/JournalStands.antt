@@ -2,7 +2,7 @@
 use Rattle.std.specs.Prelude.{◌≡◌, ℕ, true, List, [], length}
 use Rattle.metric_history.specs.declared.entry.Entry.{Entry}
 use Rattle.metric_facts.specs.declared.facts.Facts.{Facts}
-use Rattle.metric_book.specs.Journals.{no_marks}
+use Rattle.metric_history.specs.Journals.{no_marks}
 use Rattle.metric_journal.specs.Ranges.{windows_in_range}
 
 -- the facts of the instrument, its accepted recordings, oldest first, and each reader's mark

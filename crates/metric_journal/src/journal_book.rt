@@ -1,6 +1,6 @@
 //! The book that keeps the list of the recordings.
 ghost use Rattle.std.specs.Prelude.{◌≡◌, ◌≤◌, ◌++◌, ◌∷◌, [], true, length, slice_index, slice_set, if◌then◌else◌, IfOk, OnOk, OnErr};
-ghost use Rattle.metric_book.specs.Journals.{window_of};
+ghost use Rattle.metric_history.specs.Journals.{window_of};
 ghost use Rattle.metric_journal.specs.JournalStands.{empty_journal};
 ghost use Rattle.metric_journal.specs.Ranges.{windows_in_range};
 ghost use Rattle.metric_facts.specs.Facts.{is_delta};
@@ -9,11 +9,9 @@ ghost use Rattle.metric_history.specs.Windows.{fits_all, fits_stream as stays_in
 use crate::points::stream_points;
 use crate::sums::fits_stream;
 use metric_base::Copied;
-use metric_book::{Book, Window};
 use metric_contents::Refusal;
 use metric_facts::Facts;
-use metric_history::Entry;
-use metric_plan::Plan;
+use metric_history::{Book, Entry, Window};
 use metric_views::Stream;
 use std::alloc::{AllocError, Global};
 use std::marker::Model;
@@ -94,7 +92,7 @@ impl JournalBook {
         fits_stream(stream, self.covered(stream.reader), entry)
     }
 
-    // Whether that of each stream does. Takes no memory.
+    // Whether that of each stream does. Allocates no memory.
     fn fits(&self, entry: &Entry) -> bool
         ensures { let book = self.now in
             result ≡ fits_all book.facts (slice_index book.marks) book.entries entry.now }
@@ -108,7 +106,7 @@ impl JournalBook {
         true
     }
 
-    // Puts a recording last. Where memory is refused, nothing changes.
+    // Puts a recording last. When out of memory, nothing changes.
     fn put_last(&mut self, entry: Entry) -> Result<(), AllocError>
         ensures ok { OnOk result
             (self.new ≡ record self.old { entries = self.old.entries ++ entry ∷ [] }) }
@@ -173,13 +171,8 @@ impl Book for JournalBook {
 
     const KEEPS_ENTRIES: bool = false;
 
-    fn new(
-        alloc: Global,
-        plan: &Plan,
-        instrument: u32,
-        _seed: u64,
-    ) -> Result<JournalBook, AllocError> {
-        let facts = plan.facts(instrument).copy(alloc)?;
+    fn new(alloc: Global, facts: &Facts, _seed: u64) -> Result<JournalBook, AllocError> {
+        let facts = facts.copy(alloc)?;
         JournalBook::without_recordings(alloc, facts)
     }
 

@@ -22,8 +22,8 @@ pub fn is_among(kept: &[bool], entries: &[Entry], key: &SetKey) -> bool
     entries.iter().any(|entry| series_of(kept, entry) == *key)
 }
 
-/// Whether a series is, or would be as the next one, among the first distinct ones of the recordings, of
-/// which there are as many as the limit says. Takes no memory.
+/// Whether a series is, or would be as the next one, among the first distinct ones of the recordings, of which there
+/// are as many as the limit says. Allocates no memory.
 pub fn has_place(kept: &[bool], limit: usize, entries: &[Entry], key: &SetKey) -> bool
     ensures { let keys = all_series kept.now entries.now ++ key.now ∷ [] in
         result ≡ has (take limit (distinct keys)) key.now }

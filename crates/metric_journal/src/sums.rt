@@ -1,4 +1,4 @@
-//! Sums over the recordings of a window, made by reading it through. They take no memory.
+//! Sums over the recordings of a window, made by reading it through. They allocate no memory.
 ghost use Rattle.std.specs.Prelude.{◌≡◌, true, if◌then◌else◌, ◌*◌, ◌^◌, ◌-◌, pos, ◌+ℤ◌, neg_ℤ, ◌≤ℤ◌, length};
 ghost use Rattle.metric_aggregate.specs.Range.{fits_i64, sum_in_range};
 ghost use Rattle.metric_aggregate.specs.Value.{sum_of};

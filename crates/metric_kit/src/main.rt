@@ -1,9 +1,9 @@
 //! Runs a command on an input of parts from standard input.
 #![tactic(auto)]
 
-use metric_command::{Line, LineFault, command_of};
-use metric_commands::run_line;
+use metric_command_lines::{Line, LineFault, command_of};
 use metric_io::{StdSink, StdSource};
+use metric_kit_program::run_line;
 use std::alloc::{AllocError, Global};
 use std::env;
 use std::io::{BufWriter, ErrorKind, Write};

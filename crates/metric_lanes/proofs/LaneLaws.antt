@@ -1,7 +1,7 @@
 -- What one lane reports is gathered.
 use Rattle.std.proofs.Common.{◌≡◌, ℕ, sym, ap, subst, ◌∙◌, arith}
 use Rattle.std.specs.Prelude.{slice_index, slice_index_or, if◌then◌else◌}
-use Rattle.metric_book.specs.Journals.{Standing}
+use Rattle.metric_history.specs.Journals.{Standing}
 use Rattle.metric_core.specs.BudgetLaws.{kept_journal}
 use Rattle.metric_core.specs.Cells.{CellKept, CellValue}
 use Rattle.metric_core.specs.CellAnswers.{ReportsBatch}

@@ -12,10 +12,9 @@ ghost use Rattle.metric_history.specs.Aggregations.{stream_aggregation};
 
 use crate::together::streams_together;
 use metric_base::Items;
-use metric_book::Book;
 use metric_contents::Refusal;
 use metric_facts::{Facts, NumberedStream};
-use metric_history::{Batch, StreamPoints};
+use metric_history::{Batch, Book, StreamPoints};
 use metric_safety::laws::journals_are_bounded;
 use metric_slot::{Seen, Slot, journal_reports_are_within};
 use metric_views::StreamAggregation;

@@ -8,7 +8,7 @@ use metric_aggregate::PointValue;
 use metric_base::{Copied, Items};
 use std::alloc::{AllocError, Global};
 
-// What two lanes report of a series together. Fails only where memory is refused.
+// What two lanes report of a series together. Fails only when out of memory.
 pub(crate) fn join(alloc: Global, a: &PointValue, b: &PointValue) -> Result<PointValue, AllocError>
     requires { IsValueInRange (joined a.now b.now) }
     ensures { IfOk result (λ value. value ≡ joined a.now b.now) }

@@ -12,7 +12,7 @@ use std::alloc::{AllocError, Global};
 use std::cmp::Ordering;
 
 /// The points of two lanes, put together: of each series that either has what both report of it, joined, in ascending
-/// order of set keys. One pass over both. Fails only where memory is refused.
+/// order of set keys. One pass over both. Fails only when out of memory.
 pub fn put_together(alloc: Global, a: &[Point], b: &[Point]) -> Result<Items<Point>, AllocError>
     requires { CanJoin a.now b.now }
     ensures { IfOk result (λ all. ArePutTogether a.now b.now all) }

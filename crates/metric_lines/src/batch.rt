@@ -16,9 +16,9 @@ use std::alloc::AllocError;
 /// Writes the text of a batch: a line with the time and the number of all points; then, for each stream
 /// of the batch that has points, a line that describes it and a line for each point.
 ///
-/// The streams are those of the plan, numbered from 0. A stream whose number, or whose reader, instrument
-/// or meter, is not there is left out; its points still count. Fails only where memory is refused, and
-/// may then have written a part of the text.
+/// The streams are those of the plan, numbered from 0. A stream whose number, or whose reader, instrument or meter, is
+/// not there is left out; its points still count. Fails only when out of memory, and may then have written a part of
+/// the text.
 #[tactic(auto, unfolding(crate::specs::Batches::batch_text))]
 pub fn push_batch(
     out: &mut Vec<u8>,

@@ -54,8 +54,8 @@ fn push_description(out: &mut Vec<u8>, stream: &Stream) -> Result<(), AllocError
     push_pieces(out, &pieces)
 }
 
-/// Writes the line of a stream of this number as `show` prints it, if its reader and its instrument are
-/// there. Fails only where memory is refused, and may then have written a part of the line.
+/// Writes the line of a stream of this number as `show` prints it, if its reader and its instrument are there. Fails
+/// only when out of memory, and may then have written a part of the line.
 pub fn push_shown(
     out: &mut Vec<u8>,
     catalogue: &Catalogue,
@@ -102,8 +102,7 @@ fn push_shown_line<'a>(
     push_pieces(out, &pieces)
 }
 
-/// Writes the line of a warning. Fails only where memory is refused, and may then have written a part of
-/// the line.
+/// Writes the line of a warning. Fails only when out of memory, and may then have written a part of the line.
 pub fn push_warning(out: &mut Vec<u8>, warning: Warning) -> Result<(), AllocError>
     ensures { OnOk result (out.new.items ≡ out.old.items ++ warning_text warning) }
 {

@@ -65,29 +65,49 @@ struct Service {
 type Queue<'a> = Queued<Ledger<'a>>;
 
 fn main(rt: HostRuntime) -> Result<()> {
-    let (device, mut runs, alloc) = (Device::new(), Runs::new(), rt.alloc());
-    let mut queue = Queued::new(alloc, Ledger::new(&device), 1_000);
-    let start = now(&rt)?;
-    let (provider, recorders, readers) = open(&rt, alloc, CATALOGUE, CONFIG, start, &mut runs)?;
-    tell_headroom(&rt, alloc, provider.plan())?;
-    let first = Service {
-        provider,
-        recorders,
-        readers,
-    };
-    let (second, mut recorded) = live_on(&rt, first, &mut queue, runs.next())?;
+    let device = Device::new();
+    let mut queue = Queued::new(rt.alloc(), Ledger::new(&device), 1_000);
+    let recorded = live_three_runs(&rt, &device, &mut queue)?;
+    tell_exported(&rt, &queue, recorded)
+}
+
+// Three runs, of which the device is out for the second one. How much was recorded in all.
+fn live_three_runs<R: Threads + Wait + Clock + Print + Sync + AllocGlobal>(
+    rt: &R,
+    device: &Device,
+    queue: &mut Queue<'_>,
+) -> Result<i128> {
+    let mut runs = Runs::new();
+    let first = opened(rt, rt.alloc(), &mut runs)?;
+    let (second, mut recorded) = live_on(rt, first, queue, runs.next())?;
     println!(rt; "first run: {recorded}")?;
     device.set_out(true);
-    let (third, more) = live_on(&rt, second, &mut queue, runs.next())?;
+    let (third, more) = live_on(rt, second, queue, runs.next())?;
     recorded = recorded.saturating_add(more);
     let waits = !queue.kept().is_empty();
     println!(rt; "with the second run: {recorded}, some in the queue: {waits}")?;
     device.set_out(false);
-    recorded = recorded.saturating_add(live_to_end(&rt, third, &mut queue)?);
+    recorded = recorded.saturating_add(live_to_end(rt, third, queue)?);
     println!(rt; "with the third run: {recorded}")?;
-    let lost = queue.dropped();
-    let (ledger, kept) = queue.into_parts();
-    let (exported, gaps, kept) = (ledger.sum(), ledger.gaps(), kept.len());
+    Ok(recorded)
+}
+
+// The service of the first run.
+fn opened<R: Wait + Clock + Print>(rt: &R, alloc: Global, runs: &mut Runs) -> Result<Service> {
+    let (provider, recorders, readers) = open(rt, alloc, CATALOGUE, CONFIG, now(rt)?, runs)?;
+    let service = Service {
+        provider,
+        recorders,
+        readers,
+    };
+    tell_headroom(rt, alloc, service.provider.plan())?;
+    Ok(service)
+}
+
+// Tells what was exported. Fails where that is not all that was recorded, once.
+fn tell_exported<R: Print>(rt: &R, queue: &Queue<'_>, recorded: i128) -> Result<()> {
+    let (exported, gaps) = (queue.inner().sum(), queue.inner().gaps());
+    let (kept, lost) = (queue.kept().len(), queue.dropped());
     println!(rt; "exported: {exported}, gaps {gaps}, kept {kept}, lost {lost}")?;
     ensure!(
         i128::from(exported) == recorded,

@@ -1,4 +1,5 @@
--- The entry that the maker gives a stream says what bounds it, and there is one exactly where the stream fits its limit.
+-- The entry that the maker gives a stream says what bounds it, and there is one exactly where the stream fits its
+-- limit.
 use Rattle.std.proofs.Common.{◌≡◌, ◌<◌, ◌≤◌, ℕ, Bool, true, false, cond, if◌then◌else◌, List, length, Option, Some, None, Result, Ok, Err, refl, sym, ap, subst, arith}
 use Rattle.std.specs.Prelude.{nat_le, unwrap_or}
 use Rattle.std.proofs.lemmas.Bool.{leb-true, leb-false}

@@ -2,7 +2,7 @@
 use std::alloc::AllocError;
 use thiserror::Error;
 
-/// Why a catalogue and a config get no certificate: the first part of safety that fails, with what it is about, or want
+/// Why a catalogue and a config get no certificate: the first part of safety that fails, with what it is about, or out
 /// of memory. Instruments are numbered as in the catalogue, readers as in the config, and streams as they are resolved.
 #[derive(Clone, Copy, Debug, PartialEq, Eq, Drop, Error)]
 pub enum MakeFault {
@@ -48,7 +48,7 @@ pub enum MakeFault {
         /// The number of the instrument.
         instrument: u32,
     },
-    /// Memory was refused.
+    /// Out of memory.
     #[error("7 Memory")]
     Memory,
 }

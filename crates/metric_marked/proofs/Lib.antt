@@ -1,4 +1,3 @@
-pub mod PlacedLaws
 pub mod TableLaws
 pub mod MarkLaws
 pub mod StepLaws

@@ -3,7 +3,7 @@ use Rattle.std.proofs.Common.{◌≡◌, ℕ, zero, suc, ◌<◌, ◌≤◌, Boo
 use Rattle.std.specs.Prelude.{replicate, slice_index, slice_set}
 use Rattle.std.proofs.lemmas.Bool.{cases_eq}
 use Rattle.std.proofs.lemmas.List.{drop-append-le, drop_all, get_or-set_same, get_or-set_other, length-set, length-replicate}
-use Rattle.metric_book.specs.Journals.{no_marks}
+use Rattle.metric_history.specs.Journals.{no_marks}
 use Rattle.metric_facts.specs.Facts.{is_delta, is_full_set}
 use Rattle.metric_facts.specs.Products.{AreAllByProduct}
 use Rattle.metric_history.specs.Windows.{window}

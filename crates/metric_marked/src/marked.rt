@@ -1,23 +1,20 @@
 //! A book of running tables with a mark for each reader.
-ghost use Rattle.std.specs.Prelude.{◌≡◌, [], length, replicate, slice_index_or, false, IfOk, if◌then◌else◌};
-ghost use Rattle.metric_book.specs.Journals.{JudgesEntry, MayTake, no_marks};
-ghost use Rattle.metric_facts.specs.Products.{AreDense};
+ghost use Rattle.std.specs.Prelude.{◌≡◌, length, replicate, slice_index_or, false, IfOk, if◌then◌else◌};
+ghost use Rattle.metric_history.specs.Journals.{JudgesEntry, MayTake};
 ghost use Rattle.metric_marked.specs.Marks.{ClosesWindow, StandsMarked};
 
 use crate::stream_table::StreamTable;
 use crate::tables::{all_fit, empty, empty_tables, points_of, push_all};
 use metric_base::Items;
-use metric_book::{Book, Window};
 use metric_contents::Refusal;
 use metric_facts::Facts;
-use metric_history::Entry;
-use metric_plan::Plan;
+use metric_history::{Book, Entry, Window};
 use metric_series::Place;
 use std::alloc::{AllocError, Global};
 use std::marker::Model;
 
-// 128 bytes of marks, and more of places. Behind what a recording or a collection writes is room that nobody writes, so that
-// what the allocator hands out next lies on other lines of cache.
+// 128 bytes of marks, and more of places. Behind what a recording or a collection writes is room that nobody writes,
+// so that what the allocator hands out next lies on other lines of cache.
 const SPARE: usize = 16;
 
 /// The accepted recordings of one instrument as the running values of their series (Metrics SDK, aggregation
@@ -57,22 +54,7 @@ impl Model for Marked {
 }
 
 impl Marked {
-    /// The book of an instrument with these facts, without recordings, of which no plan need be there. Set keys are
-    /// hashed with the seed. Fails only where memory is refused.
-    pub fn with_facts(alloc: Global, facts: &Facts, seed: u64) -> Result<Marked, AllocError>
-        requires { AreDense facts.now }
-        ensures { IfOk result (λ book. StandsMarked book facts.now [] (no_marks facts.now)) }
-    {
-        Ok(Marked {
-            tables: empty_tables(alloc, facts, seed)?,
-            places: Vec::with_capacity(alloc, facts.streams.len().saturating_add(SPARE))?,
-            delta: Items::from_vec(facts.delta.as_slice().to_vec(alloc)?),
-            marks: zeros(alloc, facts.delta.len())?,
-            count: 0,
-        })
-    }
-
-    /// Whether each series into which a recording falls stays in range with it. Takes no memory.
+    /// Whether each series into which a recording falls stays in range with it. Allocates no memory.
     pub fn fits(&self, entry: &Entry) -> bool
         requires { MayTake (StandsMarked self.now) entry.now }
         ensures { JudgesEntry (StandsMarked self.now) entry.now result }
@@ -98,10 +80,14 @@ impl Book for Marked {
 
     const KEEPS_ENTRIES: bool = false;
 
-    fn new(alloc: Global, plan: &Plan, instrument: u32, seed: u64) -> Result<Marked, AllocError> {
-        // For the proof alone: the catalogue is sound.
-        let _sound = plan.catalogue().instruments();
-        Marked::with_facts(alloc, plan.facts(instrument), seed)
+    fn new(alloc: Global, facts: &Facts, seed: u64) -> Result<Marked, AllocError> {
+        Ok(Marked {
+            tables: empty_tables(alloc, facts, seed)?,
+            places: Vec::with_capacity(alloc, facts.streams.len().saturating_add(SPARE))?,
+            delta: Items::from_vec(facts.delta.as_slice().to_vec(alloc)?),
+            marks: zeros(alloc, facts.delta.len())?,
+            count: 0,
+        })
     }
 
     #[inline(always)]

@@ -7,7 +7,7 @@ ghost use Rattle.metric_marked.specs.Marks.{AddsAllPoints, AddsPoints, EmptiesOn
 ghost use Rattle.metric_marked.specs.StreamSeries.{stream_series};
 ghost use Rattle.metric_marked.specs.Stepwise.{AddsTo, AreReady, EachAt, IsReadyFor, Puts, Restores};
 
-use crate::stream_series::StreamSeries;
+use crate::stream_series::empty_series;
 use crate::stream_table::StreamTable;
 use metric_base::Items;
 use metric_facts::Facts;
@@ -37,7 +37,7 @@ pub(crate) fn empty_tables(
         tables.push(StreamTable {
             number: numbered.number,
             reader: numbered.stream.reader,
-            table: StreamSeries::new(alloc, keys, numbered, seed)?,
+            table: empty_series(alloc, keys, numbered, seed)?,
         })?;
     }
     Ok(tables)
@@ -125,8 +125,8 @@ fn add_to(stream: &mut StreamTable, entry: &Entry) -> Result<(), SeriesFault>
 }
 
 /// Adds a recording to each table, or to none where one of them refuses it. An instrument with one stream, as most
-/// have, needs no places. All memory is taken before the first
-/// value is added, and none where each table has room for all values. There is room for a place of each table; what the list of places has held is lost.
+/// have, needs no places. All memory is taken before the first value is added, and none where each table has room for
+/// all values. There is room for a place of each table; what the list of places has held is lost.
 pub(crate) fn push_all(
     tables: &mut [StreamTable],
     places: &mut Vec<Place>,

@@ -46,7 +46,7 @@ pub enum NameFault {
     /// The text has more than 255 characters.
     #[error("4 TooLong")]
     TooLong,
-    /// Memory was refused.
+    /// Out of memory.
     #[error("5 Memory")]
     Memory,
 }

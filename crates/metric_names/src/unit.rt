@@ -39,7 +39,7 @@ pub enum UnitFault {
     /// The text has more than 63 characters.
     #[error("2 TooLong")]
     TooLong,
-    /// Memory was refused.
+    /// Out of memory.
     #[error("3 Memory")]
     Memory,
 }

@@ -52,8 +52,8 @@ pub(crate) fn push_message(
     end_block(out, place)
 }
 
-/// Writes fields as a message that may be long: apart, since what a message has moves where its length has more than one
-/// digit.
+/// Writes fields as a message that may be long: apart, since what a message has moves where its length has more than
+/// one digit.
 pub(crate) fn push_long_message(
     alloc: Global,
     out: &mut Vec<u8>,

@@ -24,8 +24,8 @@ use std::alloc::{AllocError, Global};
 /// out, as in the bytes.
 ///
 /// All numbers are exact: those of 64 bits are decimal digits in quotes, and sums, least and greatest values of
-/// histograms and boundaries are decimal digits. A batch that is no bytes is no line. Fails only where memory is
-/// refused, and may then have written a part.
+/// histograms and boundaries are decimal digits. A batch that is no bytes is no line. Fails only when out of memory,
+/// and may then have written a part.
 pub fn push_line(
     alloc: Global,
     out: &mut Vec<u8>,

@@ -1,6 +1,7 @@
 //! Points.
 ghost use Rattle.std.specs.Prelude.{◌≡◌, ◌++◌, OnOk};
-ghost use Rattle.metric_otlp.specs.Points.{point_field};
+ghost use Rattle.metric_otlp.specs.Points.{number_point, point_field};
+ghost use Rattle.metric_wire.specs.Wire.{block};
 
 use crate::field::{Field, push_message};
 use metric_aggregate::PointValue;
@@ -10,7 +11,7 @@ use std::alloc::AllocError;
 
 /// Writes a point of a batch, of which the stream keeps some keys: a message `NumberDataPoint`, or `HistogramDataPoint`
 /// with boundaries.
-#[tactic(auto, unfolding(crate::specs::Points::number_point, crate::specs::Points::histogram_point))]
+#[tactic(auto, unfolding(crate::specs::Points::histogram_point))]
 pub(crate) fn push_point<'a>(
     out: &mut Vec<u8>,
     keys: &'a [Key],
@@ -24,13 +25,7 @@ pub(crate) fn push_point<'a>(
 {
     match &point.value {
         PointValue::Sum(number) | PointValue::Last(number) => {
-            let fields = [
-                Field::Word(2, batch.start),
-                Field::Word(3, batch.time),
-                Field::Signed(6, *number),
-                Field::Series(7, keys, kept, &point.set),
-            ];
-            push_message(out, 1, &fields)
+            push_number(out, keys, kept, batch, point, *number)
         }
         PointValue::Buckets {
             count,
@@ -53,4 +48,26 @@ pub(crate) fn push_point<'a>(
             push_message(out, 1, &fields)
         }
     }
+}
+
+// A point that is one number: a message `NumberDataPoint`.
+#[tactic(auto, unfolding(crate::specs::Points::number_point))]
+fn push_number<'a>(
+    out: &mut Vec<u8>,
+    keys: &'a [Key],
+    kept: &'a [bool],
+    batch: &Batch,
+    point: &'a Point,
+    number: i64,
+) -> Result<(), AllocError>
+    ensures { OnOk result (out.new.items ≡ out.old.items
+        ++ block 1 (number_point keys.now kept.now batch.now point.now.set number)) }
+{
+    let fields = [
+        Field::Word(2, batch.start),
+        Field::Word(3, batch.time),
+        Field::Signed(6, number),
+        Field::Series(7, keys, kept, &point.set),
+    ];
+    push_message(out, 1, &fields)
 }

@@ -28,7 +28,7 @@ use std::alloc::{AllocError, Global};
 /// greatest values of histograms, which are the doubles nearest to them: exact up to 2^53. Times are in nanoseconds;
 /// 0 is not written, as "unknown".
 ///
-/// Requests one after the other are one request. Fails only where memory is refused, and may then have written a part.
+/// Requests one after the other are one request. Fails only when out of memory, and may then have written a part.
 pub fn push_request(
     alloc: Global,
     out: &mut Vec<u8>,

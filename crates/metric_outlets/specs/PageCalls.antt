@@ -67,8 +67,7 @@ pub record KeepsPage {P : Type 0} (old new : PageExporterValue P) : Type 0 where
   pub lines : new.lines ≡ old.lines
 
 -- # flush of it (SDK, push metric exporter) [FlushesPage, ShutsPageDown]
--- The page was handed on once, and the answer passed on; else memory was refused and nothing
--- changed.
+-- The page was handed on once, and the answer passed on; else memory ran out and nothing changed.
 pub record FlushesPage {P : Type 0} (replaces : Replacing P) (old new : PageExporterValue P)
     (answer : Result (Unit {0}) ExportFault) : Type 0 where
   pub kept : KeepsPage old new

@@ -1,5 +1,5 @@
-//! Encodings that tools read. Exporters that write to a sink take them: [`TextExporter::of`](metric_export::TextExporter::of)
-//! and its like. And an exporter that replaces a page.
+//! Encodings that tools read. Exporters that write to a sink take them:
+//! [`TextExporter::of`](metric_export::TextExporter::of) and its like. And an exporter that replaces a page.
 #![tactic(auto)]
 
 mod exposition;

@@ -10,8 +10,8 @@ use metric_resource::Resource;
 use std::alloc::{AllocError, Global};
 use std::marker::Model;
 
-/// Each batch as a message `ExportMetricsServiceRequest`: the body of a post to `/v1/metrics` of an OpenTelemetry receiver.
-/// Messages one after the other are one message. A batch without points is nothing.
+/// Each batch as a message `ExportMetricsServiceRequest`: the body of a post to `/v1/metrics` of an OpenTelemetry
+/// receiver. Messages one after the other are one message. A batch without points is nothing.
 #[derive(Drop)]
 pub struct OtlpBytes {
     resource: Resource,

@@ -10,8 +10,8 @@ use metric_resource::Resource;
 use std::alloc::{AllocError, Global};
 use std::marker::Model;
 
-/// Each batch as a line of OTLP/JSON: what the OpenTelemetry Collector's file exporter writes and its file receiver reads.
-/// A batch without points is nothing.
+/// Each batch as a line of OTLP/JSON: what the OpenTelemetry Collector's file exporter writes and its file receiver
+/// reads. A batch without points is nothing.
 #[derive(Drop)]
 pub struct OtlpLines {
     resource: Resource,

@@ -26,19 +26,20 @@ pub trait Pages {
     // What the replacement of a page does, by the page and the answer.
     ghost replaces: { Self → Self → List ℕ → Result (Unit {0}) Broken → Type 0 };
 
-    /// Replaces the page that was there as a whole: who reads sees the one or the other. [`Broken`] where it could not; the
-    /// page before it may then stay. It may be asked again.
+    /// Replaces the page that was there as a whole: who reads sees the one or the other. [`Broken`] where it could not;
+    /// the page before it may then stay. It may be asked again.
     fn replace(&mut self, page: &[u8]) -> Result<(), Broken>
         ensures { replaces self.old self.new page.now result };
 }
 
-/// An exporter that keeps the last lines of each instrument, and hands on the page of all of them at each flush: so once after
-/// each collection of a [`Periodic`](https://opentelemetry.io/docs/specs/otel/metrics/sdk/#periodic-exporting-metricreader)
-/// reader, and at a shutdown. It is for one reader, with cumulative streams.
+/// An exporter that keeps the last lines of each instrument, and hands on the page of all of them at each flush: so
+/// once after each collection of a
+/// [`Periodic`](https://opentelemetry.io/docs/specs/otel/metrics/sdk/#periodic-exporting-metricreader) reader, and at a
+/// shutdown. It is for one reader, with cumulative streams.
 ///
-/// After a failure the next flush hands on the page of all lines again, so that no queue is needed before it. Contracts see
-/// the format, what a page begins with, the lines of each instrument, what takes the pages, the count of its failures, and the
-/// state.
+/// After a failure the next flush hands on the page of all lines again, so that no queue is needed before it. Contracts
+/// see the format, what a page begins with, the lines of each instrument, what takes the pages, the count of its
+/// failures, and the state.
 #[derive(Drop)]
 pub struct PageExporter<P> {
     dialect: Dialect,
@@ -67,9 +68,9 @@ impl<P> Model for PageExporter<P> {
 }
 
 impl<P: Pages + Drop> PageExporter<P> {
-    /// An exporter of pages of this format for the instruments of the plan, with the attributes of this resource. The answer
-    /// is a [`TargetFault`] where they can't be the labels of one line, or memory was refused; what takes the pages is dropped
-    /// then.
+    /// An exporter of pages of this format for the instruments of the plan, with the attributes of this resource. The
+    /// answer is a [`TargetFault`] where they can't be the labels of one line, or memory ran out; what takes the pages
+    /// is dropped then.
     pub fn new(
         alloc: Global,
         plan: &Plan,

@@ -12,7 +12,7 @@ pub enum InputFault {
         /// The line's number in the input, counted from 1.
         line: u64,
     },
-    /// Memory was refused.
+    /// Out of memory.
     #[error("memory")]
     Memory,
 }

@@ -3,8 +3,8 @@ ghost use Rattle.std.specs.Prelude.{◌≡◌, ℕ, List};
 ghost use Rattle.metric_parts.specs.declared.needs.Needs.{Needs};
 ghost use Rattle.metric_parts.specs.Input.{Contents, IsInput, IsFirstFault};
 
-/// An input has its parts in one way only, and lines have one first fault unless they are an
-/// input. So [`parts_of`](crate::parts_of) has one answer that is not want of memory.
+/// An input has its parts in one way only, and lines have one first fault unless they are an input. So
+/// [`parts_of`](crate::parts_of) has one answer that is not out of memory.
 pub fn one_reading()
     ensures parts { (needs : Needs) (lines : List (List ℕ)) (a b : Contents)
         → IsInput needs lines a → IsInput needs lines b → a ≡ b }

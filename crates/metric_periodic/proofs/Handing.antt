@@ -4,7 +4,7 @@ use Rattle.metric_io.specs.Counts.{next_count}
 use Rattle.std.specs.Io.KnownBytes.{Keeps}
 use Rattle.metric_export.specs.Exports.{Exports}
 use Rattle.metric_export.specs.declared.fault.ExportFault.{ExportFault}
-use Rattle.metric_export.specs.declared.tick.StopCause.{StopCause}
+use Rattle.metric_periodic.specs.declared.tick.StopCause.{StopCause}
 use Rattle.metric_history.specs.declared.batch.Batch.{Batch}
 use Rattle.metric_seat.specs.Seats.{CollectorValue, ProviderValue}
 use Rattle.metric_periodic.specs.Collections.{Collected, Collecting, CollectingLast, CollectsLast}

@@ -61,7 +61,7 @@ pub record RefusesSome (p : ProviderValue) (now : ℕ) (old new : CollectorValue
   pub each : CollectsEach p now old new done
       (record { instrument = instrument; refusal = refusal } ∷ others)
 
--- There was no memory for the lists, and nothing was collected.
+-- Memory ran out for the lists, and nothing was collected.
 pub record RefusesAll (old new : CollectorValue) (done : List Batch) (instrument : ℕ)
     (refusal : Refusal) : Type 0 where
   pub seat : new ≡ old

@@ -1,3 +1,4 @@
+pub mod Ticks
 pub mod Collections
 pub mod Each
 pub mod Counts

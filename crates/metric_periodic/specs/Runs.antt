@@ -1,8 +1,8 @@
 -- A whole run of a periodic reader.
 use Rattle.std.specs.Prelude.{◌≡◌, ℕ, Option}
-use Rattle.metric_export.specs.Ticks.{moment_of}
-use Rattle.metric_export.specs.declared.tick.StopCause.{StopCause}
-use Rattle.metric_export.specs.declared.tick.Tick.{Tick}
+use Rattle.metric_periodic.specs.Ticks.{moment_of}
+use Rattle.metric_periodic.specs.declared.tick.StopCause.{StopCause}
+use Rattle.metric_periodic.specs.declared.tick.Tick.{Tick}
 use Rattle.metric_periodic.specs.Collections.{Collected, Collecting, CollectingLast}
 use Rattle.metric_periodic.specs.Exported.{Answering, Exporting, ExportsCollected, IsFlushed, IsRetried, ShutsDown, Tally}
 use Rattle.metric_periodic.specs.Turns.{Giving, MakesTurns, Progress, stop_of}

@@ -1,8 +1,8 @@
 -- A periodic reader, as contracts see it, and its turns.
 use Rattle.std.specs.Prelude.{◌≡◌, ◌<◌, ℕ, zero, suc, Option, Some, None}
-use Rattle.metric_export.specs.declared.tick.StopCause.{StopCause}
-use Rattle.metric_export.specs.declared.tick.Tick.{Tick}
-use Rattle.metric_export.specs.declared.tick.Tick.TheVariants.{At, Stop}
+use Rattle.metric_periodic.specs.declared.tick.StopCause.{StopCause}
+use Rattle.metric_periodic.specs.declared.tick.Tick.{Tick}
+use Rattle.metric_periodic.specs.declared.tick.Tick.TheVariants.{At, Stop}
 use Rattle.metric_periodic.specs.Collections.{Collected, Collecting}
 use Rattle.metric_periodic.specs.Exported.{Answering, Exporting, HandsOnCollected, Tally}
 

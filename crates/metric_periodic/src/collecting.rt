@@ -3,20 +3,19 @@ ghost use Rattle.std.specs.Prelude.{◌≡◌, ◌≤◌, ◌+◌, ◌++◌, ◌
 ghost use Rattle.metric_periodic.specs.Each.{CollectsEach, CollectsPatiently, given_by, refused_by};
 
 use crate::each::{Collection, RefusedInstrument};
-use metric_book::Book;
 use metric_contents::Refusal;
 use metric_export::has_points;
-use metric_history::Batch;
+use metric_history::{Batch, Book};
 use metric_provider::{AllFault, Collector, Gate, Provider};
 use std::alloc::{AllocError, Global};
 use std::sync::Wait;
 
-/// Collects of each instrument once, in order, and goes on where one is refused, as for want of memory: so a refused
+/// Collects of each instrument once, in order, and goes on where one is refused, as when out of memory: so a refused
 /// instrument hides no other. [`Collector::collect_all`] ends at the first refusal.
 ///
 /// # Errors
 ///
-/// Where there is no memory for the lists. Then nothing was collected.
+/// When out of memory for the lists. Then nothing was collected.
 pub fn collect_each<R: Wait, B: Book, G: Gate>(
     rt: &R,
     alloc: Global,

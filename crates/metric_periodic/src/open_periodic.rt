@@ -11,8 +11,9 @@ use crate::counts::RunningCounts;
 use crate::exports::Exports;
 use crate::reading::{Ended, Reading, read_open};
 use crate::seat::Patiently;
-use metric_book::Book;
-use metric_export::{MetricExporter, StopCause, Ticker};
+use crate::tick::{StopCause, Ticker};
+use metric_export::MetricExporter;
+use metric_history::Book;
 use metric_provider::{Collector, Gate, Provider};
 use std::alloc::Global;
 use std::marker::Model;
@@ -22,7 +23,7 @@ use std::sync::Wait;
 /// too: for a service that rolls over. It asks its ticker a limited number of times in each run.
 ///
 /// Unlike a [`Periodic`](crate::Periodic) it hands on no batch without points, and where an instrument is refused, as
-/// for want of memory, it collects the others; the next turn tries that one again, and no window is lost.
+/// when out of memory, it collects the others; the next turn tries that one again, and no window is lost.
 #[derive(Drop)]
 pub struct OpenPeriodic<E> {
     exports: Exports<E>,

@@ -8,7 +8,8 @@ ghost use Rattle.metric_periodic.specs.Turns.{IsCollectedAt, MakesTurns, stop_of
 use crate::counts::Listener;
 use crate::exports::Exports;
 use crate::seat::Seat;
-use metric_export::{MetricExporter, StopCause, Tick, Ticker};
+use crate::tick::{StopCause, Tick, Ticker};
+use metric_export::MetricExporter;
 use metric_plan::Plan;
 use std::alloc::Global;
 

@@ -3,8 +3,7 @@ ghost use Rattle.std.specs.Prelude.{ℕ, IsErr, IsSome, Option};
 ghost use Rattle.metric_periodic.specs.Collections.{Collected};
 
 use crate::collecting::collect_patiently;
-use metric_book::Book;
-use metric_history::Batch;
+use metric_history::{Batch, Book};
 use metric_provider::{AllFault, Collector, Gate, Provider};
 use std::alloc::Global;
 use std::sync::Wait;

@@ -55,7 +55,7 @@ impl Node {
         }
     }
 
-    /// Adds a line, where it could be made. Fails only where memory is refused.
+    /// Adds a line, where it could be made. Fails only when out of memory.
     pub(crate) fn add_line(&mut self, line: Result<String, AllocError>) -> Result<(), AllocError> {
         self.lines.push(line?)?;
         Ok(())

@@ -26,13 +26,13 @@ const INSTRUMENTS: usize = 0;
 const VIEWS: usize = 1;
 
 /// The text of a picture of a catalogue and a config, as an SVG: instruments, the views that select them, and the
-/// streams that these give each reader, or that come by default. Fails only where memory is refused.
+/// streams that these give each reader, or that come by default. Fails only when out of memory.
 pub fn draw(alloc: Global, catalogue: &Catalogue, config: &Config) -> Result<String, AllocError> {
     draw_with(alloc, catalogue, config, None)
 }
 
 /// The same of a new catalogue and config, with what a change does to the streams: those that are new or differ are
-/// marked, those that go stand below, and last what the marks mean. Fails only where memory is refused.
+/// marked, those that go stand below, and last what the marks mean. Fails only when out of memory.
 pub fn draw_change(
     alloc: Global,
     catalogue: &Catalogue,

@@ -22,7 +22,7 @@ path.red { fill: none; stroke: #c80000 }
 </style>
 ";
 
-/// The text of an SVG of a diagram. Fails only where memory is refused.
+/// The text of an SVG of a diagram. Fails only when out of memory.
 pub(crate) fn svg_of(alloc: Global, diagram: &Diagram) -> Result<String, AllocError> {
     let layout = layout_of(alloc, diagram)?;
     let mut out = String::new(alloc);

@@ -1,5 +1,5 @@
--- There are facts for each instrument, safe streams are of instruments whose recordings can be counted, and ranges fit one after the
--- other.
+-- There are facts for each instrument, safe streams are of instruments whose recordings can be counted, and ranges fit
+-- one after the other.
 use Rattle.std.proofs.Common.{◌≡◌, ◌<◌, ◌≤◌, ℕ, suc, ◌+◌, ◌^◌, Bool, true, List, [], ◌∷◌, length, Some, slice_get, get_or, nat_lt, refl, ap, subst, ◌∙◌, arith, below_more}
 use Rattle.std.specs.Prelude.{FitsSigned}
 use Rattle.std.specs.Int.{w64}

@@ -36,7 +36,7 @@ pub enum CheckFault {
     CountRange,
     /// The sums of an instrument are further apart than stated, or than the range of u64.
     AmountRange,
-    /// Memory was refused.
+    /// Out of memory.
     Memory,
 }
 

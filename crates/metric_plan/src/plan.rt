@@ -23,10 +23,10 @@ use std::marker::Model;
 
 /// A catalogue with a config, the streams that they give, and what the run of each instrument depends on.
 ///
-/// The type of a certified plan keeps that no two of its streams share an identity, that each can have at
-/// most as many series as its limit, and that no count and no kept sum leaves 64 bits, whatever is recorded
-/// within the budgets and what is granted. Where a stream of it is by product, it can have at most as many series as its limit
-/// whatever the budgets are.
+/// The type of a certified plan keeps that no two of its streams share an identity, that each can have at most as many
+/// series as its limit, and that no count and no kept sum leaves 64 bits, whatever is recorded within the budgets and
+/// what is granted. Where a stream of it is by product, it can have at most as many series as its limit whatever the
+/// budgets are.
 pub struct Plan {
     catalogue: Catalogue,
     config: Config,
@@ -177,10 +177,10 @@ impl Plan {
         self.is_certified
     }
 
-    /// What plans are told apart by, as handles and batches do: FNV-1a of 64 bits over all that the catalogue and the config say.
-    /// It is kept through a roll-over, and plans of the same contents have the same one on purpose, as they name the same things by
-    /// the same numbers. It guards against a mix-up, not against an attacker: two others have the same one by chance, 1 in 2^64 for
-    /// each pair, or since somebody chose their texts so.
+    /// What plans are told apart by, as handles and batches do: FNV-1a of 64 bits over all that the catalogue and the
+    /// config say. It is kept through a roll-over, and plans of the same contents have the same one on purpose, as they
+    /// name the same things by the same numbers. It guards against a mix-up, not against an attacker: two others have
+    /// the same one by chance, 1 in 2^64 for each pair, or since somebody chose their texts so.
     #[inline(always)]
     pub fn fingerprint(&self) -> u64
         ensures { result ≡ print_of self.now }

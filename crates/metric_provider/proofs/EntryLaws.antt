@@ -4,9 +4,9 @@ use Rattle.std.specs.Prelude.{◌↔◌, IsTrue, ◌==◌, filter, slice_get}
 use Rattle.std.proofs.lemmas.List.{drop_all, drop_more}
 use Rattle.std.proofs.lemmas.Bool.Decides.{nat_tests}
 use Rattle.std.proofs.lemmas.Option.{same_Some}
-use Rattle.metric_book.specs.declared.slip.Slip.{Slip}
+use Rattle.metric_history.specs.declared.slip.Slip.{Slip}
 use Rattle.metric_history.specs.declared.entry.Entry.{Entry}
-use Rattle.metric_book.specs.Slips.{is_by, slip_of, slips_of}
+use Rattle.metric_history.specs.Slips.{is_by, slip_of, slips_of}
 
 own_more : (r : ℕ) (entries : List Entry) (i : ℕ) (d : Entry) → i < length entries → (get_or entries i d).recorder ≡ r
     → slips_of r (drop i entries) ≡ slip_of (get_or entries i d) ∷ slips_of r (drop (i + 1) entries)

@@ -1,7 +1,7 @@
 -- Recordings in a row.
 use Rattle.std.proofs.Common.{◌≡◌, ◌<◌, ◌≤◌, ℕ, ℤ, ◌+◌, List, [], ◌∷◌, ◌++◌, get_or, length, map, take, refl, sym, ap, subst, ◌∙◌}
 use Rattle.std.proofs.lemmas.List.{append-nil, append_assoc, map_more, take_all, take_more}
-use Rattle.metric_book.specs.Journals.{Standing}
+use Rattle.metric_history.specs.Journals.{Standing}
 use Rattle.metric_core.specs.CellAnswers.{GainsEntry}
 use Rattle.metric_core.specs.Cells.{CellStands, CellValue}
 use Rattle.metric_history.specs.declared.entry.Entry.{Entry}

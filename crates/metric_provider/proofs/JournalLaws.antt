@@ -7,8 +7,8 @@ use Rattle.std.proofs.lemmas.List.FromFn.{get_or-range_with_len, length-range_wi
 use Rattle.std.proofs.lemmas.Bool.{eqb-true}
 use Rattle.std.proofs.lemmas.List.{length-map}
 use Rattle.std.proofs.lemmas.Option.{same_Some, slice_get_within}
-use Rattle.metric_book.specs.Slips.{slips_of}
-use Rattle.metric_book.specs.declared.slip.Slip.{Slip}
+use Rattle.metric_history.specs.Slips.{slips_of}
+use Rattle.metric_history.specs.declared.slip.Slip.{Slip}
 use Rattle.metric_core.specs.Cells.{CellValue}
 use Rattle.metric_history.specs.declared.entry.Entry.{Entry}
 use Rattle.metric_plan.specs.Plans.{PlanValue}

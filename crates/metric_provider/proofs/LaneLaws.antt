@@ -7,7 +7,7 @@ use Rattle.std.proofs.lemmas.List.Elements.{All-head, All-tail}
 use Rattle.std.proofs.lemmas.List.Folds.{list_all-append}
 use Rattle.std.proofs.lemmas.List.Sums.{fold-append, sum_by-cons, sum_by_more, sum_by-take-le}
 use Rattle.metric_aggregate.specs.Value.{sum_of}
-use Rattle.metric_book.specs.Journals.{KeepsAllOrNothing, Standing, kept_of}
+use Rattle.metric_history.specs.Journals.{KeepsAllOrNothing, Standing, kept_of}
 use Rattle.metric_core.specs.Cells.{CellKept, CellValue}
 use Rattle.metric_facts.specs.declared.facts.Facts.{Facts}
 use Rattle.metric_history.specs.declared.entry.Entry.{Entry}

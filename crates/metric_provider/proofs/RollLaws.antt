@@ -6,7 +6,7 @@ use Rattle.std.proofs.lemmas.List.{take_more}
 use Rattle.std.proofs.lemmas.List.Elements.{All-cons, All-nil}
 use Rattle.std.proofs.lemmas.List.Sums.{fold-append}
 use Rattle.std.proofs.lemmas.Slice.Zip.{all_zipped_more}
-use Rattle.metric_book.specs.Journals.{Standing}
+use Rattle.metric_history.specs.Journals.{Standing}
 use Rattle.metric_core.specs.Cells.{CellKept, CellValue, latest}
 use Rattle.metric_provider.specs.Locked.{AreLanes, AreLocked}
 use Rattle.metric_provider.specs.Rolling.{IsLatest, IsTimeBehind, IsTimeOfLane, RefusesNext, RefusesRoll, TellsLatest, latest_of}

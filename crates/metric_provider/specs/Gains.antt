@@ -1,6 +1,6 @@
 -- What recordings in a row make of the instrument that they are made on.
 use Rattle.std.specs.Prelude.{ℕ, ◌++◌, List, Result, Ok, Err, map, take}
-use Rattle.metric_book.specs.Journals.{Standing}
+use Rattle.metric_history.specs.Journals.{Standing}
 use Rattle.metric_core.specs.Cells.{CellStands, CellValue}
 use Rattle.metric_core.specs.CellAnswers.{entry_of}
 use Rattle.metric_history.specs.declared.entry.Entry.{Entry}

@@ -1,7 +1,7 @@
 -- What stands behind the locks of a provider.
 use Rattle.std.specs.Prelude.{◌≡◌, ◌<◌, ℕ, Bool, true, All, List, length, map}
-use Rattle.metric_book.specs.Journals.{Standing}
-use Rattle.metric_book.specs.declared.slip.Slip.{Slip}
+use Rattle.metric_history.specs.Journals.{Standing}
+use Rattle.metric_history.specs.declared.slip.Slip.{Slip}
 use Rattle.metric_core.specs.Cells.{CellKept, CellValue}
 use Rattle.metric_facts.specs.declared.facts.Facts.{Facts}
 use Rattle.metric_history.specs.declared.entry.Entry.{Entry}

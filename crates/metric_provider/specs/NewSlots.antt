@@ -1,6 +1,6 @@
 -- The slots with which a provider starts.
 use Rattle.std.specs.Prelude.{◌≡◌, ℕ, List, [], Some, slice_get}
-use Rattle.metric_book.specs.Journals.{Standing}
+use Rattle.metric_history.specs.Journals.{Standing}
 use Rattle.metric_core.specs.Cells.{CellStands, CellValue, new_cell}
 use Rattle.metric_facts.specs.declared.facts.Facts.{Facts}
 

@@ -2,7 +2,7 @@
 use Rattle.std.specs.Prelude.{◌≡◌, ◌<◌, ◌≤◌, ℕ, Bool, true, false, List, Result, fold, length, map}
 use Rattle.std.specs.Prelude.{max}
 use Rattle.std.specs.List.{AllZip, range_with_len}
-use Rattle.metric_book.specs.Journals.{Standing}
+use Rattle.metric_history.specs.Journals.{Standing}
 use Rattle.metric_core.specs.Cells.{CellKept, CellValue, latest}
 use Rattle.metric_plan.specs.Plans.{PlanValue}
 use Rattle.metric_seat.specs.declared.fault.FinishFault.{FinishFault}

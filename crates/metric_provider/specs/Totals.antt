@@ -4,9 +4,9 @@ use Rattle.std.specs.Prelude.{Result, Ok, Err, filter, length, map, slice_get, i
 use Rattle.std.specs.List.{list_all, range_with_len}
 use Rattle.metric_base.specs.Steps.{◌>>=◌, require}
 use Rattle.metric_aggregate.specs.Value.{sum_of}
-use Rattle.metric_book.specs.Journals.{kept_of}
-use Rattle.metric_book.specs.Slips.{slips_of}
-use Rattle.metric_book.specs.declared.slip.Slip.{Slip}
+use Rattle.metric_history.specs.Journals.{kept_of}
+use Rattle.metric_history.specs.Slips.{slips_of}
+use Rattle.metric_history.specs.declared.slip.Slip.{Slip}
 use Rattle.metric_core.specs.Cells.{CellValue}
 use Rattle.metric_facts.specs.declared.facts.Facts.{Facts}
 use Rattle.metric_history.specs.Points.{values}
@@ -91,7 +91,7 @@ AreSettled {B} whole kept instruments lanes seats =
     (i : ℕ) (own : Facts) (cells : List (CellValue B)) → slice_get instruments i ≡ Some own
     → slice_get lanes i ≡ Some cells → IsSettled whole kept own cells seats i
 
--- what refuses the totals: those of some instrument are not, or memory was refused
+-- what refuses the totals: those of some instrument are not, or memory ran out
 abbrev pub RefusesTotals : {B : Type 0} → Bool → (B → List Entry) → List Facts
     → List (List (CellValue B)) → List RecorderValue → FinishFault → Type 0
 RefusesTotals whole kept instruments lanes seats AuditMismatch =

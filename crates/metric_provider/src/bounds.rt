@@ -4,7 +4,7 @@ ghost use Rattle.metric_provider.specs.Windows.{WindowsMeet};
 
 use crate::gate::Gate;
 use crate::provider::Provider;
-use metric_book::Book;
+use metric_history::Book;
 use metric_safety::laws::journals_are_bounded;
 
 /// Whatever threads have done, and whatever the book, each batch that a seat collects of the provider has bounded

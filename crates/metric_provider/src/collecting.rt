@@ -1,5 +1,5 @@
-//! A collection of all lanes of an instrument. Their locks are taken in ascending order, each by a call of its own, which
-//! holds it until all lanes have reported: so a collection is one step. Refused, no lane has changed.
+//! A collection of all lanes of an instrument. Their locks are taken in ascending order, each by a call of its own,
+//! which holds it until all lanes have reported: so a collection is one step. Refused, no lane has changed.
 ghost use Rattle.std.specs.Prelude.{◌≡◌, ◌<◌, ◌≤◌, IfErr, IfOk, OnErr, OnOk, length};
 ghost use Rattle.metric_lanes.specs.Gathering.{Gathers, IsTold};
 ghost use Rattle.metric_safety.specs.SafeFacts.{IsSafeFacts};
@@ -8,10 +8,9 @@ ghost use Rattle.metric_slot.specs.Sightings.{seen_of};
 
 use crate::gate::Gate;
 use crate::lanes::Locked;
-use metric_book::Book;
 use metric_contents::Refusal;
 use metric_facts::Facts;
-use metric_history::Batch;
+use metric_history::{Batch, Book};
 use metric_lanes::{Asked, Gathered};
 use metric_slot::{Seen, Slot};
 use std::alloc::Global;

@@ -8,9 +8,8 @@ ghost use Rattle.metric_slot.specs.declared.seen.Seen.{Seen as sightings};
 use crate::fault::AllFault;
 use crate::gate::Gate;
 use crate::provider::Provider;
-use metric_book::Book;
 use metric_contents::Refusal;
-use metric_history::Batch;
+use metric_history::{Batch, Book};
 use metric_plan::Plan;
 use metric_seat::ReaderSeat;
 use std::alloc::{AllocError, Global};
@@ -98,8 +97,7 @@ impl Collector {
     /// # Errors
     ///
     /// The first refusal of [`Collector::collect`], with its instrument; instrument 0 where it is a `Stranger` before
-    /// any lock. Where there is no memory for the list itself, it is `Memory` at instrument 0, and nothing was
-    /// collected.
+    /// any lock. When out of memory for the list itself, it is `Memory` at instrument 0, and nothing was collected.
     pub fn collect_all<R: Wait, B: Book, G: Gate>(
         &mut self,
         rt: &R,

@@ -10,7 +10,7 @@ use std::fmt;
 pub struct AllFault {
     /// A batch of each instrument before the one that refused, in order.
     pub done: Vec<Batch>,
-    /// The number of the instrument that refused, 0 where there was no memory for the list.
+    /// The number of the instrument that refused, 0 when out of memory for the list.
     pub instrument: u32,
     /// Why.
     pub refusal: Refusal,
@@ -45,7 +45,7 @@ pub enum RollFault {
     /// The next run was to start before this time in nanoseconds, the greatest of a reader's last batch, or the start
     /// of this run before one: its windows would lie in those of this run.
     Early(u64),
-    /// The provider is not finished, or there was no memory for the next one.
+    /// The provider is not finished, or memory ran out for the next one.
     Finish(FinishFault),
 }
 

@@ -13,7 +13,7 @@ use crate::provider::Provider;
 use crate::recorder::Recorder;
 use crate::settling::{has_all, settle};
 use crate::totals::{Finished, Partly, Totals};
-use metric_book::Book;
+use metric_history::Book;
 use metric_plan::Plan;
 use metric_seat::{FinishFault, are_distinct, has_seat};
 use std::alloc::{AllocError, Global};

@@ -1,5 +1,5 @@
-//! Steps under the locks of all lanes of an instrument. The locks are taken in ascending order, each by a call of its own,
-//! which holds it until the step is made: so no other step comes between.
+//! Steps under the locks of all lanes of an instrument. The locks are taken in ascending order, each by a call of its
+//! own, which holds it until the step is made: so no other step comes between.
 ghost use Rattle.std.specs.Prelude.{◌≡◌, ◌<◌, ◌≤◌, Err, Some, IfErr, OnOk, length};
 ghost use Rattle.metric_provider.specs.Granting.{AnswersGrant, IsGranted};
 ghost use Rattle.metric_provider.specs.Rooms.{AnswersSpare};
@@ -8,9 +8,9 @@ use crate::gate::Gate;
 use crate::held::grant;
 use crate::lanes::Locked;
 use crate::rooms::Budgeted;
-use metric_book::Book;
 use metric_contents::Refusal;
 use metric_facts::Facts;
+use metric_history::Book;
 use metric_slot::Slot;
 use std::sync::{Mutex, Wait};
 
@@ -87,8 +87,8 @@ pub(crate) fn grant_from<R: Wait, B: Book, G: Gate>(
     }
 }
 
-/// How many recordings may still be granted, where so many may without what the lanes from the one of this place on have
-/// granted.
+/// How many recordings may still be granted, where so many may without what the lanes from the one of this place on
+/// have granted.
 pub(crate) fn spare_from<R: Wait, B: Book, G: Gate>(
     rt: &R,
     gate: &G,

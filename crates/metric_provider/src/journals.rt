@@ -8,12 +8,11 @@ ghost use Rattle.metric_provider.specs.Totals.{slips_by, slips_of_seats, slips_o
 use crate::lanes::OpenLanes;
 use crate::recorder::Recorder;
 use metric_base::Items;
-use metric_book::{Book, Slip};
-use metric_history::Entry;
+use metric_history::{Book, Entry, Slip};
 use metric_slot::Slot;
 use std::alloc::{AllocError, Global};
 
-/// What the books of each instrument keep. Fails only where memory is refused.
+/// What the books of each instrument keep. Fails only when out of memory.
 pub(crate) fn journals_of<B: Book>(
     alloc: Global,
     unlocked: &[OpenLanes<B>],
@@ -28,7 +27,7 @@ pub(crate) fn journals_of<B: Book>(
     Ok(journals)
 }
 
-/// What the books of an instrument's lanes keep, one lane after the other. Fails only where memory is refused.
+/// What the books of an instrument's lanes keep, one lane after the other. Fails only when out of memory.
 pub(crate) fn journal_of<B: Book>(
     alloc: Global,
     lanes: &[Slot<B>],
@@ -51,7 +50,7 @@ fn push_entries<B: Book>(entries: &mut Vec<Entry>, slot: &Slot<B>) -> Result<(),
     entries.extend_from_slice(slot.cell().entries())
 }
 
-/// The slips of each recorder on each instrument, of so many of both. Fails only where memory is refused.
+/// The slips of each recorder on each instrument, of so many of both. Fails only when out of memory.
 pub(crate) fn slips_of_seats(
     alloc: Global,
     seats: &[Recorder],

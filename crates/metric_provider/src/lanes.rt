@@ -2,7 +2,7 @@
 ghost use Rattle.std.specs.Prelude.{◌≡◌, ◌<◌, ◌≤◌, ◌+◌, [], ◌∷◌, IfOk, OnOk, length, vec_capacity, vec_len};
 
 use crossbeam_utils::CachePadded;
-use metric_book::Book;
+use metric_history::Book;
 use metric_slot::Slot;
 use std::alloc::{AllocError, Global};
 use std::marker::Model;
@@ -57,7 +57,7 @@ impl<B: Book> Model for OpenLanes<B> {
 
 impl<B: Book> Lanes<B> {
     /// An instrument of one lane. Behind the lock is room that nobody writes, so that what the allocator hands out next
-    /// lies on other lines of cache. Fails only where memory is refused.
+    /// lies on other lines of cache. Fails only when out of memory.
     pub(crate) fn one(alloc: Global, slot: Slot<B>) -> Result<Lanes<B>, AllocError>
         ensures { IfOk result (λ lanes. lanes ≡ 1) }
     {
@@ -94,7 +94,7 @@ impl<B: Book> Lanes<B> {
         self.locks.as_slice()
     }
 
-    /// One lane more. Fails only where memory is refused.
+    /// One lane more. Fails only when out of memory.
     pub(crate) fn add(&mut self, slot: Slot<B>) -> Result<(), AllocError>
         ensures { OnOk result (self.new ≡ self.old + 1) }
     {
@@ -110,7 +110,7 @@ impl<B: Book> Lanes<B> {
         self.of = of;
     }
 
-    /// Takes the lanes out of their locks. Takes no memory.
+    /// Takes the lanes out of their locks. Allocates no memory.
     pub(crate) fn unlock(self) -> OpenLanes<B>
         ensures { length result ≡ self }
     {
@@ -130,7 +130,7 @@ impl<B: Book> Lanes<B> {
 }
 
 impl<B: Book> OpenLanes<B> {
-    /// A lane that has all recordings of its instrument. Fails only where memory is refused.
+    /// A lane that has all recordings of its instrument. Fails only when out of memory.
     pub fn one(alloc: Global, slot: Slot<B>) -> Result<OpenLanes<B>, AllocError>
         ensures { IfOk result (λ lanes. lanes ≡ slot ∷ []) }
     {
@@ -151,7 +151,7 @@ impl<B: Book> OpenLanes<B> {
         self.slots.as_slice()
     }
 
-    /// Puts the lanes behind their locks again. Takes no memory.
+    /// Puts the lanes behind their locks again. Allocates no memory.
     pub(crate) fn lock(self) -> Lanes<B>
         ensures { result ≡ length self }
     {

@@ -31,7 +31,7 @@ pub use collector::Collector;
 pub use fault::{AllFault, RollFault};
 pub use gate::{Gate, NoGate};
 pub use lanes::OpenLanes;
-pub use metric_book::Slip;
+pub use metric_history::Slip;
 pub use metric_seat::{FinishFault, Measurement, SetsFault, Total};
 pub use metric_slot::{Seen, Slot, Told};
 pub use provider::Provider;

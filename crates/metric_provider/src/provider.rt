@@ -9,8 +9,8 @@ ghost use Rattle.metric_slot.specs.Slots.{AreCertified};
 use crate::gate::Gate;
 use crate::held::{Governed, Inside};
 use crate::lanes::Lanes;
-use metric_book::Book;
 use metric_contents::Refusal;
+use metric_history::Book;
 use metric_plan::Plan;
 use metric_slot::certified_facts_are_safe;
 use std::marker::Model;
@@ -135,7 +135,7 @@ impl<B: Book, G: Gate> Provider<B, G> {
     }
 
     /// Grants a recorder so many recordings on an instrument beside its budget, of what is left of the instrument's
-    /// spare budget. Whoever has the provider may call it for any recorder. Takes no memory.
+    /// spare budget. Whoever has the provider may call it for any recorder. Allocates no memory.
     ///
     /// # Errors
     ///

@@ -8,8 +8,8 @@ ghost use Rattle.metric_seat.specs.Seats.{is_recorder_of, new_recorder, provider
 
 use crate::gate::Gate;
 use crate::provider::Provider;
-use metric_book::{Book, Slip};
 use metric_contents::{Attr, Refusal, SetKey};
+use metric_history::{Book, Slip};
 use metric_plan::Plan;
 use metric_seat::{Measurement, RecorderSeat, SetsFault, Tells};
 use metric_slot::Told;
@@ -58,7 +58,7 @@ impl Recorder {
     /// refusal: `Stranger` where the seat's run is of another number, the seat was made for another number of
     /// instruments, or the plan has no recorder of its number; `UnknownInstrument`, those of the attributes in their
     /// order, the last of them `Combination` where they are none of the instrument's allowed combinations, and
-    /// `ValueRange`. Takes no memory and no lock.
+    /// `ValueRange`. Allocates no memory and takes no lock.
     pub fn admits<B: Book, G: Gate>(
         &self,
         provider: &Provider<B, G>,
@@ -148,13 +148,13 @@ impl Recorder {
     /// Makes recordings of one instrument by their set keys (Metrics API, synchronous instruments), in order and under
     /// one lock, up to the first that is refused: no other thread records on the instrument between them. The seat is
     /// told of exactly those before the refused one, and has slips of them where it keeps any. An empty list is
-    /// accepted of any seat. Takes no memory of its own but for slips.
+    /// accepted of any seat. Allocates no memory of its own but for slips.
     ///
     /// # Errors
     ///
     /// The first refusal of [`Recorder::record_set`], as if they were made one by one, with its place in the list. What
-    /// that tests before the lock is tested of all of them before the lock; where there is no memory for all slips, the
-    /// first recording is refused.
+    /// that tests before the lock is tested of all of them before the lock; when out of memory for all slips, the first
+    /// recording is refused.
     pub fn record_sets<R: Wait, B: Book, G: Gate>(
         &mut self,
         rt: &R,

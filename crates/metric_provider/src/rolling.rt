@@ -16,7 +16,7 @@ use crate::recorder::Recorder;
 use crate::starting::{Beginning, new_parts};
 use crate::timed::latest_of;
 use crate::totals::{Rolled, Totals};
-use metric_book::Book;
+use metric_history::Book;
 use metric_plan::Plan;
 use metric_seat::FinishFault;
 use std::alloc::Global;

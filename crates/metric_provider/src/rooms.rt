@@ -12,9 +12,9 @@ use crate::governing::spare_from;
 use crate::held::Inside;
 use crate::provider::Provider;
 use crate::recorder::Recorder;
-use metric_book::Book;
 use metric_contents::Refusal;
 use metric_facts::Facts;
+use metric_history::Book;
 use metric_plan::Plan;
 use metric_seat::Tells;
 use metric_slot::{Slot, Told};
@@ -95,7 +95,7 @@ impl<R: Wait, B: Book, G: Gate> Budgeted for Inside<'_, R, B, G> {
 impl Recorder {
     /// How many recordings the recorder may still make on an instrument: by its budget and what it was granted beside
     /// it, less what the seat was told of. Others can make it more, by [`Provider::grant`]; the seat's own recordings
-    /// alone make it less. A closed instrument takes none of these. Takes no memory.
+    /// alone make it less. A closed instrument takes none of these. Allocates no memory.
     ///
     /// # Errors
     ///
@@ -121,7 +121,7 @@ impl Recorder {
 }
 
 impl<B: Book, G: Gate> Provider<B, G> {
-    /// How many recordings of an instrument's spare budget may still be granted. Takes no memory.
+    /// How many recordings of an instrument's spare budget may still be granted. Allocates no memory.
     ///
     /// # Errors
     ///

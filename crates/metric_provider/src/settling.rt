@@ -1,6 +1,6 @@
 //! The instruments compared with what their recorders were told.
 ghost use Rattle.std.specs.Prelude.{◌≡◌, ◌↔◌, All, IsTrue, true, IfNone, IfOk, IfErr, IfSome, OnOk, OnSome, Some, length, slice_get};
-ghost use Rattle.metric_book.specs.Slips.{slip_of, slips_of};
+ghost use Rattle.metric_history.specs.Slips.{slip_of, slips_of};
 ghost use Rattle.metric_core.specs.Cells.{CellKept};
 ghost use Rattle.metric_provider.specs.Lanes.{kept_by};
 ghost use Rattle.metric_seat.specs.Settlements.{IsToldBy, has_each, told_total};
@@ -10,9 +10,8 @@ use crate::journals::journal_of;
 use crate::lanes::OpenLanes;
 use crate::recorder::Recorder;
 use crate::together::{Together, is_counted};
-use metric_book::{Book, Slip};
 use metric_facts::Facts;
-use metric_history::Entry;
+use metric_history::{Book, Entry, Slip};
 use metric_plan::Plan;
 use metric_seat::{FinishFault, Tally, Total, has_each, total_of_all, total_of_some};
 use metric_slot::Slot;

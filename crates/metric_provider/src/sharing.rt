@@ -16,8 +16,8 @@ pub(crate) fn lanes_for(facts: &Facts, keeps_entries: bool, most: u32) -> u32 {
     most.min(MOST).min(recorders_of(facts)).max(1)
 }
 
-/// The lane of each recorder: those that can record take turns. Of one lane nothing is said, since each recorder has the
-/// first where nothing is said. Fails only where memory is refused.
+/// The lane of each recorder: those that can record take turns. Of one lane nothing is said, since each recorder has
+/// the first where nothing is said. Fails only when out of memory.
 pub(crate) fn lane_of_each(
     alloc: Global,
     facts: &Facts,

@@ -10,7 +10,7 @@ use crate::lanes::Lanes;
 use crate::provider::Provider;
 use crate::recorder::Recorder;
 use crate::sharing::{lane_of_each, lanes_for};
-use metric_book::Book;
+use metric_history::Book;
 use metric_plan::Plan;
 use metric_slot::Slot;
 use std::alloc::{AllocError, Global};
@@ -21,7 +21,7 @@ use std::sync::Wait;
 /// its lock: no batch tells another one. Seats serve the number of the run that they were made for: give each provider
 /// one of its own, since seats of one run and of plans of the same sizes are told apart by nothing else. Where the
 /// books keep their entries, the seats of the recorders keep slips. The seed of books that hash is made of the start
-/// and the number of the run. Where memory is refused, the plan and the gate are handed back.
+/// and the number of the run. When out of memory, the plan and the gate are handed back.
 pub fn start<R: Wait, B: Book, G: Gate>(
     _rt: &R,
     alloc: Global,
@@ -176,7 +176,7 @@ fn locked<B: Book>(alloc: Global, slots: Vec<Slot<B>>) -> Result<Vec<Lanes<B>>, 
     Ok(locked)
 }
 
-// Puts each slot behind a lock, the last one first. Fails only where memory is refused.
+// Puts each slot behind a lock, the last one first. Fails only when out of memory.
 fn lock_each<B: Book>(
     alloc: Global,
     slots: &mut Vec<Slot<B>>,

@@ -3,7 +3,7 @@ ghost use Rattle.std.specs.Prelude.{◌≡◌, ℕ, max};
 ghost use Rattle.metric_provider.specs.Rolling.{IsTimeBehind, IsTimeOfLane, TellsLatest};
 
 use crate::lanes::{Lanes, Locked};
-use metric_book::Book;
+use metric_history::Book;
 use metric_slot::Slot;
 use std::sync::{Mutex, Wait};
 

@@ -2,8 +2,8 @@
 ghost use Rattle.std.specs.Prelude.{◌≡◌, ◌↔◌, ◌<◌, ◌*◌, ◌^◌, pos, neg_ℤ, ◌≤ℤ◌, IsTrue};
 ghost use Rattle.metric_provider.specs.Lanes.{count_over, spent_over, total_over};
 
-use metric_book::Book;
 use metric_facts::Facts;
+use metric_history::Book;
 use metric_seat::Tally;
 use metric_slot::Slot;
 

@@ -4,8 +4,7 @@ use crate::gate::Gate;
 use crate::provider::Provider;
 use crate::recorder::Recorder;
 use metric_base::Items;
-use metric_book::{Book, Slip};
-use metric_history::Entry;
+use metric_history::{Book, Entry, Slip};
 use metric_plan::Plan;
 use metric_seat::Total;
 

@@ -62,8 +62,8 @@ impl Streams {
     }
 }
 
-/// The streams that a config gives for a catalogue (Metrics SDK, View), with what is to be warned of.
-/// Fails only where memory is refused.
+/// The streams that a config gives for a catalogue (Metrics SDK, View), with what is to be warned of. Fails only when
+/// out of memory.
 ///
 /// A view applies to an instrument where it selects it and its aggregation fits the kind. Where no view
 /// applies, the default stream is given. An aggregation that drops gives no stream, but applies.
@@ -78,7 +78,7 @@ pub fn resolve(alloc: Global, catalogue: &Catalogue, config: &Config) -> Result<
     Ok(Streams { list, warnings })
 }
 
-/// The streams alone, for who asks for no warnings. Fails only where memory is refused.
+/// The streams alone, for who asks for no warnings. Fails only when out of memory.
 pub fn resolve_streams(
     alloc: Global,
     catalogue: &Catalogue,

@@ -13,8 +13,8 @@ use metric_catalogue::Catalogue;
 use metric_views::{Config, Fill, Reader, Stream, Template};
 use std::alloc::{AllocError, Global};
 
-/// The streams of all readers (Metrics SDK, View), by reader, instrument and view, where the selection tells which views
-/// select which instruments. There are at most 2,097,152. Fails only where memory is refused.
+/// The streams of all readers (Metrics SDK, View), by reader, instrument and view, where the selection tells which
+/// views select which instruments. There are at most 2,097,152. Fails only when out of memory.
 pub fn streams_by<S: Selection>(alloc: Global, selection: &S) -> Result<StreamList, AllocError>
     ensures exact { IfOk result (λ s. s
         ≡ streams_of (S.contents selection.now) (S.setup selection.now)) }

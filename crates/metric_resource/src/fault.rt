@@ -16,7 +16,7 @@ pub enum ResourceFault {
     /// A key stands twice.
     #[error("3 RepeatedKey")]
     RepeatedKey,
-    /// Memory was refused.
+    /// Out of memory.
     #[error("4 Memory")]
     Memory,
 }

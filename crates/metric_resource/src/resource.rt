@@ -46,7 +46,7 @@ impl Resource {
         Resource::from_items(Items::from_vec(owned))
     }
 
-    /// The resource of these attributes, or the first fault that they have. Takes no memory.
+    /// The resource of these attributes, or the first fault that they have. Allocates no memory.
     #[tactic(auto, unfolding(crate::specs::Resources::resource_of))]
     pub fn from_items(attributes: Items<OwnedAttr>) -> Result<Resource, ResourceFault>
         ensures { result ≡ resource_of attributes }

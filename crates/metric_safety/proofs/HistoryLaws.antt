@@ -1,4 +1,5 @@
--- What a legal history of a safe run can be: its accepted recordings stay within the budgets and grants, so nothing overflows.
+-- What a legal history of a safe run can be: its accepted recordings stay within the budgets and grants, so nothing
+-- overflows.
 use Rattle.std.proofs.Common.{◌≡◌, ℕ, zero, suc, ◌+◌, ◌-◌, ◌<◌, ◌≤◌, ℤ, Bool, true, false, ◌&&◌, not, cond, List, [], ◌∷◌, ◌++◌, length, map, set, replicate, Option, Some, None, Result, Ok, Err, ◌⊎◌, inl, inr, refl, sym, ap, subst, ◌∙◌, arith}
 use Rattle.std.specs.Prelude.{sum, unwrap_or, slice_get, slice_index, slice_set, nat_le, nat_lt, ◌==◌}
 use Rattle.std.specs.List.{list_all}

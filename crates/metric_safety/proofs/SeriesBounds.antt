@@ -1,5 +1,5 @@
--- Recordings of full sets have no more series than the product over the kept keys, and no more than there are recordings; those of listed
--- combinations have no more than these have restrictions.
+-- Recordings of full sets have no more series than the product over the kept keys, and no more than there are
+-- recordings; those of listed combinations have no more than these have restrictions.
 use Rattle.std.proofs.Common.{◌≡◌, ◌≢◌, ℕ, zero, suc, ◌+◌, ◌*◌, ◌<◌, ◌≤◌, Bool, true, false, not, ◌||◌, cond, List, [], ◌∷◌, length, map, All, AllPairs, refl, sym, ap, subst, ◌∙◌, arith}
 use Rattle.std.specs.Prelude.{eqb}
 use Rattle.std.specs.List.{AllByRecursion, IsDistinct, list_any}

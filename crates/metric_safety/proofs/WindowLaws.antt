@@ -1,4 +1,5 @@
--- Every window of the recordings that an instrument of safe facts may have accepted is bounded, and the next such recording fits.
+-- Every window of the recordings that an instrument of safe facts may have accepted is bounded, and the next such
+-- recording fits.
 use Rattle.std.proofs.Common.{◌≡◌, ◌≢◌, ℕ, zero, suc, ◌-◌, ◌^◌, ◌<◌, ◌≤◌, min, ℤ, ◌≤ℤ◌, Bool, true, false, ◌&&◌, ◌||◌, not, cond, List, [], ◌∷◌, ◌++◌, length, map, drop, get_or, All, AllPairs, Option, Some, None, refl, sym, ap, subst, ◌∙◌, arith}
 use Rattle.std.specs.Prelude.{filter, sum_by, count_by, int_le, IsSome, IsTrue, ◌==◌}
 use Rattle.std.specs.List.{AllByRecursion}

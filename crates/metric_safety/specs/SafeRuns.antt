@@ -125,7 +125,7 @@ pub record IsWithinBudget (facts : RunFacts) (h : History) (recorder number : �
       < slice_index own.budgets recorder + granted_of h number recorder
 
 -- No recording was or would be refused for its sums, so each declared one within its budget is
--- accepted, or memory is refused.
+-- accepted, or memory runs out.
 pub record NoSumRefuses (facts : RunFacts) (start : ℕ) (h : History) : Type 0 where
   pub never : All (λ (a : Answered). a.reply ≢ Refused SumRange) h
   pub next : (recorder number : ℕ) (attrs : List OwnedAttr) (value : ℤ)

@@ -25,11 +25,11 @@ pub fn safe_plans_run_safely()
     streams_are_what_views_give();
 }
 
-/// The recordings that an instrument of safe facts may have accepted stay bounded in every window: no more
-/// series than the keys allow, or the combinations where these are listed, and than there are recordings, none of
-/// them the overflow series (Metrics SDK, cardinality limits), counts and sums that add up, each number by the range
-/// and the number of recordings. The next recording within the budgets is in range for each stream, whatever the marks of
-/// the readers. And what a reader is told stays within the bounds for as many recordings as it covers.
+/// The recordings that an instrument of safe facts may have accepted stay bounded in every window: no more series than
+/// the keys allow, or the combinations where these are listed, and than there are recordings, none of them the overflow
+/// series (Metrics SDK, cardinality limits), counts and sums that add up, each number by the range and the number of
+/// recordings. The next recording within the budgets is in range for each stream, whatever the marks of the readers.
+/// And what a reader is told stays within the bounds for as many recordings as it covers.
 pub fn journals_are_bounded()
     ensures bounded { BoundsJournals }
     ensures fits { FitsJournals }
@@ -65,7 +65,7 @@ pub fn no_series_overflows()
 }
 
 /// No recording is refused for the range of a sum, so a declared one within its recorder's budget and what it was
-/// granted is accepted, unless the instrument is closed or memory is refused.
+/// granted is accepted, unless the instrument is closed or memory runs out.
 pub fn no_sum_refuses_a_recording()
     ensures { OfSafeRuns (λ _ facts start h. NoSumRefuses facts start h) }
 {

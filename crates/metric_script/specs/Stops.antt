@@ -14,7 +14,7 @@ use Rattle.metric_script.specs.declared.events.ScriptEvents.{ScriptEvents}
 use Rattle.metric_script.specs.declared.stop.Stop.{Stop}
 use Rattle.metric_script.specs.declared.stop.Stop.TheVariants.{At, Memory}
 
--- What a function returned is what reading gives, unless memory was refused.
+-- What a function returned is what reading gives, unless memory ran out.
 abbrev pub TellsLines : {X Y : Type 0} → (X → Y) → Result X Stop → Result Y (List (List ℕ)) → Type 0
 TellsLines view (Ok x) read = read ≡ Ok (view x)
 TellsLines view (Err (At rest)) read = read ≡ Err (texts rest.now)

@@ -5,9 +5,9 @@ ghost use Rattle.metric_history.specs.declared.event.Event.{Event};
 ghost use Rattle.metric_script.specs.Spelling.{FitsEvent, event_text, start_text};
 ghost use Rattle.metric_script.specs.Scripts.{IsScript, IsFirstFault};
 
-/// Each start and list of events has a script. An event has one spelling, lines are the script of
-/// one start and one list of events only, and they have one first fault unless they are a script.
-/// So [`events_of`](crate::events_of) has one answer that is not want of memory. Does nothing.
+/// Each start and list of events has a script. An event has one spelling, lines are the script of one start and one
+/// list of events only, and they have one first fault unless they are a script. So [`events_of`](crate::events_of) has
+/// one answer that is not out of memory. Does nothing.
 pub fn one_script()
     ensures script { (start : ℕ) (events : List Event)
         → start < 2 ^ 64 → AllByRecursion FitsEvent events

@@ -10,7 +10,7 @@ pub(crate) type Lines<'a> = &'a [&'a [u8]];
 pub(crate) enum Stop<'a> {
     // The first of these lines is faulty, or they are none and a line is missing.
     At(Lines<'a>),
-    // Memory was refused.
+    // Out of memory.
     Memory,
 }
 

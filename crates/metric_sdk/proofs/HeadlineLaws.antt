@@ -1,6 +1,6 @@
 -- The history of all runs of a core is legal, and each batch in it is the definition's.
 use Rattle.std.proofs.Common.{◌≡◌, ℕ, List, [], ◌∷◌, Result, Ok, Err, sym, ap, subst, ◌∙◌}
-use Rattle.metric_book.specs.Journals.{Standing}
+use Rattle.metric_history.specs.Journals.{Standing}
 use Rattle.metric_contents.specs.declared.refusal.Refusal.{Refusal}
 use Rattle.metric_core.specs.CoreStands.{CoreStands, CoreValue}
 use Rattle.metric_facts.specs.Facts.{RunFacts}

@@ -5,7 +5,7 @@ use Rattle.std.proofs.lemmas.List.{length-drop}
 use Rattle.std.proofs.lemmas.Option.{slice_get_within, get_or_from_slice_get}
 use Rattle.metric_aggregate.specs.Value.{sum_of}
 use Rattle.metric_audit.specs.AuditedStands.{AuditedValue, StandsAudited}
-use Rattle.metric_book.specs.Journals.{Standing}
+use Rattle.metric_history.specs.Journals.{Standing}
 use Rattle.metric_core.specs.BudgetLaws.{kept_journal}
 use Rattle.metric_core.specs.Cells.{CellKept, CellValue}
 use Rattle.metric_history.specs.declared.entry.Entry.{Entry}

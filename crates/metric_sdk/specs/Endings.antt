@@ -39,7 +39,7 @@ AreRefused refused (Some All) = ⊥
 AreRefused refused (Some (Instruments told)) = (told.items ≡ refused) × (refused ≢ [])
 
 -- The last collection of a seat at a time, the batches with points that it gave, and what it was
--- refused. Either there was no memory for the lists, or a refused instrument hides no other.
+-- refused. Either memory ran out for the lists, or a refused instrument hides no other.
 abbrev pub CollectsToEnd : ProviderValue → ℕ → CollectorValue → CollectorValue → List Batch
     → Option Uncollected → Type 0
 CollectsToEnd p now old new batches None = CollectsEach p now old new batches []
@@ -48,11 +48,10 @@ CollectsToEnd p now old new batches (Some (Instruments refused)) =
     CollectsEach p now old new batches refused.items × (refused.items ≢ [])
 
 -- # end of a reader, of all (SDK, shutdown) [EndsReader, CollectsToEnd, HandsOn, EndsAll,
--- SettlesAtEnd, EndsClean, EndsSome, HandsOutPlan]
--- A last collection of each instrument, of which the exporter was handed each batch with points in
--- order, up to the first that it refused; the seat, the instruments that were refused and the
--- batches that are left. All readers ended, or none where there is no memory to tell; then a new try
--- of what the exporter keeps, and a flush.
+-- SettlesAtEnd, EndsClean, EndsSome, HandsOutPlan] A last collection of each instrument, of which
+-- the exporter was handed each batch with points in order, up to the first that it refused; the
+-- seat, the instruments that were refused and the batches that are left. All readers ended, or none
+-- if memory runs out before listing them; then a new try of what the exporter keeps, and a flush.
 pub record EndsReader {E : Type 0} (p : ProviderValue) (now : ℕ) (exports : Exporting E)
     (old new : E) (seat : CollectorValue) (end : ReaderEnd) : Type 0 where
   pub batches : List Batch
@@ -150,7 +149,7 @@ plan_of (Ok parts) = Some parts.1
 plan_of (Err unfinished) = None
 
 -- All readers ended, as is told of each, and the exporter then tried once more what it keeps and
--- was flushed; or there was no memory to tell, no reader was asked, and it did the same.
+-- was flushed; or memory ran out before listing them, no reader was asked, and it did the same.
 pub record EndsSome {E : Type 0} (p : ProviderValue) (now : ℕ) (exports : Exporting E)
     (retries flushes : Answering E) (old new : E) (seats : List CollectorValue)
     (ends : List ReaderEnd) (unasked : List CollectorValue)

@@ -1,6 +1,6 @@
 -- The headline: what holds of every run of a core of a certified plan.
 use Rattle.std.specs.Prelude.{◌≡◌, ℕ, true, List, [], ◌∷◌, Ok}
-use Rattle.metric_book.specs.Journals.{Standing}
+use Rattle.metric_history.specs.Journals.{Standing}
 use Rattle.metric_catalogue.specs.Sound.{IsSound}
 use Rattle.metric_cert.specs.Valid.{IsValid}
 use Rattle.metric_cert.specs.declared.claims.Claims.{Claims}

@@ -1,16 +1,15 @@
 //! What is left of a service at its end.
-use metric_book::Book;
 use metric_export::ExportFault;
-use metric_history::Batch;
+use metric_history::{Batch, Book};
 use metric_periodic::RefusedInstrument;
 use metric_plan::Plan;
 use metric_provider::{Collector, FinishFault, Gate, Provider, Recorder, Totals};
 use std::fmt;
 
-/// What the last collection of a reader was refused.
+/// What was refused to the last collection of a reader.
 #[derive(Drop)]
 pub enum Uncollected {
-    /// All instruments: there was no memory for the list of their batches.
+    /// All instruments: memory ran out for the list of their batches.
     All,
     /// These instruments, in order, each with its cause. The batches of the others were handed on.
     Instruments(Vec<RefusedInstrument>),
@@ -29,15 +28,15 @@ pub struct Unexported {
 /// How a reader ended.
 #[derive(Drop)]
 pub struct ReaderEnd {
-    /// Its seat, which has seen its last batches. It collects again of a provider that goes on.
+    /// Its seat, which has seen its last batches. It can collect again from a provider that goes on.
     pub seat: Collector,
-    /// What its last collection was refused, where it was.
+    /// What was refused to its last collection, if anything was.
     pub uncollected: Option<Uncollected>,
-    /// What its last collection gave and the exporter neither took nor keeps.
+    /// What its last collection returned and the exporter neither took nor keeps.
     pub unexported: Option<Unexported>,
 }
 
-/// Why a provider is not finished, with what it was to be finished by.
+/// Why a provider is not finished, with what would finish it.
 #[derive(Drop)]
 pub struct Unfinished<B: Book, G: Gate> {
     /// The provider, which goes on.
@@ -48,20 +47,20 @@ pub struct Unfinished<B: Book, G: Gate> {
     pub fault: FinishFault,
 }
 
-/// What is left of a service whose end was refused something, with each cause.
+/// What is left of a service that did not end cleanly, with each cause.
 #[derive(Drop)]
 pub struct EndFault<B: Book, G: Gate> {
     /// The totals, or the provider and the seats of its recorders.
     pub finished: Result<Totals, Unfinished<B, G>>,
     /// How each reader ended, in order.
     pub readers: Vec<ReaderEnd>,
-    /// All readers, where there was no memory to tell how they end: then none was asked.
+    /// All readers, if memory ran out before listing how they end: then none was asked.
     pub unasked: Vec<Collector>,
-    /// The plan, where the provider is finished: what was not exported can be exported by it. Else the provider has it.
+    /// The plan, if the provider is finished: it is needed to export what was not exported. Else the provider has it.
     pub plan: Option<Plan>,
-    /// Why the exporter did not send all that it keeps, where it did not: it keeps that still.
+    /// Why the exporter did not send everything it keeps, if it did not: it still keeps that.
     pub unsent: Option<ExportFault>,
-    /// Why the exporter was not flushed at the end, where it was not.
+    /// Why the exporter was not flushed at the end, if it was not.
     pub unflushed: Option<ExportFault>,
 }
 

@@ -6,8 +6,8 @@ ghost use Rattle.metric_sdk.specs.Endings.{EndsClean, EndsSome, HandsOutPlan, Is
 
 use crate::ended::{EndFault, Unfinished};
 use crate::last::{LastEnds, are_asked, are_clean, end_all};
-use metric_book::Book;
 use metric_export::MetricExporter;
+use metric_history::Book;
 use metric_plan::Plan;
 use metric_provider::{Collector, FinishFault, Finished, Gate, Provider, Recorder, Totals};
 use std::alloc::Global;
@@ -22,9 +22,9 @@ use std::sync::Wait;
 ///
 /// An [`EndFault`] has each cause, and hands back what is left: batches that nobody took and nobody keeps, the plan by
 /// which they can be exported later, the seats of the readers, and the provider with the seats of its recorders where
-/// it is not finished. What the exporter keeps still is not handed back: it is the exporter's. Where there is no memory
-/// to tell how the readers end, the exporter is only asked to send what it keeps and flushed, and the fault of the
-/// provider is `Memory`.
+/// it is not finished. What the exporter keeps still is not handed back: it is the exporter's. If memory runs out
+/// before listing how the readers end, the exporter is only asked to send what it keeps and flushed, and the fault of
+/// the provider is `Memory`.
 pub fn shutdown_all<R: Wait, B: Book, G: Gate, E: MetricExporter>(
     rt: &R,
     alloc: Global,

@@ -1,8 +1,8 @@
 //! The headline, as one law.
 ghost use Rattle.metric_sdk.specs.Headline.{CertifiedRunsAreExact};
 
-use metric_book::Book;
 use metric_check::valid_is_safe;
+use metric_history::Book;
 use metric_history::laws::{recordings_are_counted_once, runs_keep_histories_legal};
 use metric_safety::laws::{safe_configs_give_safe_plans, safe_plans_have_safe_histories};
 

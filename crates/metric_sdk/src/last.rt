@@ -5,30 +5,29 @@ ghost use Rattle.metric_export.specs.ExporterCalls.{IsExport, IsFlush, IsRetry};
 ghost use Rattle.metric_sdk.specs.Endings.{AnswersAtEnd, AreRefused, CollectsToEnd, EndsAll, EndsEach, EndsReader, EndsSome, HandsOn, are_asked, are_clean, are_collected, is_clean, is_collected};
 
 use crate::ended::{ReaderEnd, Uncollected, Unexported};
-use metric_book::Book;
 use metric_export::{ExportFault, MetricExporter, export_each};
-use metric_history::Batch;
+use metric_history::{Batch, Book};
 use metric_periodic::{Collection, RefusedInstrument, collect_each};
 use metric_plan::Plan;
 use metric_provider::{Collector, Gate, Provider};
 use std::alloc::Global;
 use std::sync::Wait;
 
-/// How readers ended, and what their exporter then answered.
+/// How readers ended, and what their exporter then returned.
 #[derive(Drop)]
 pub(crate) struct LastEnds {
     /// How each ended, in order.
     pub ends: Vec<ReaderEnd>,
-    /// All readers, where there was no memory to tell how they end.
+    /// All readers, if memory ran out before listing how they end.
     pub unasked: Vec<Collector>,
-    /// Why the exporter did not send all that it keeps, where it did not.
+    /// Why the exporter did not send everything it keeps, if it did not.
     pub unsent: Option<ExportFault>,
-    /// Why it was not flushed, where it was not.
+    /// Why it was not flushed, if it was not.
     pub unflushed: Option<ExportFault>,
 }
 
-/// Lets each reader collect a last time, hands on what that gives, lets the exporter try once more what it keeps, and
-/// flushes it.
+/// Lets each reader collect a last time, hands on what that returns, lets the exporter retry what it keeps, and flushes
+/// it.
 pub(crate) fn end_all<R: Wait, B: Book, G: Gate, E: MetricExporter>(
     rt: &R,
     alloc: Global,
@@ -55,8 +54,8 @@ pub(crate) fn end_all<R: Wait, B: Book, G: Gate, E: MetricExporter>(
     }
 }
 
-// Lets each reader collect a last time, and hands on what that gives. How each ended, or all where there is no memory
-// to tell.
+// Lets each reader collect a last time, and hands on what that gives. How each ended, or all of them if memory runs out
+// before listing that.
 fn ask_all<R: Wait, B: Book, G: Gate, E: MetricExporter>(
     rt: &R,
     alloc: Global,
@@ -130,7 +129,7 @@ fn is_collected(end: &ReaderEnd) -> bool
     end.uncollected.is_none()
 }
 
-// Lets the exporter try once more what it keeps. Why some of that was not sent, where it was not.
+// Lets the exporter retry what it keeps. Returns why some of that was not sent, if it was not.
 fn unsent<E: MetricExporter>(exporter: &mut E, alloc: Global, plan: &Plan) -> Option<ExportFault>
     ensures { let retries = IsRetry E.retry_gives E.text E.contents E.state plan.now in
         AnswersAtEnd retries exporter.old exporter.new result }
@@ -141,7 +140,7 @@ fn unsent<E: MetricExporter>(exporter: &mut E, alloc: Global, plan: &Plan) -> Op
     }
 }
 
-// Flushes the exporter. Why it failed, where it did.
+// Flushes the exporter. Returns why it failed, if it did.
 fn flush<E: MetricExporter>(exporter: &mut E) -> Option<ExportFault>
     ensures { let flushes = IsFlush E.flush_gives E.text E.contents E.failures E.state in
         AnswersAtEnd flushes exporter.old exporter.new result }
@@ -152,7 +151,7 @@ fn flush<E: MetricExporter>(exporter: &mut E) -> Option<ExportFault>
     }
 }
 
-// Lets each reader collect a last time, and hands on what that gives. There is room to tell how each ends.
+// Lets each reader collect a last time, and hands on what that returns. There is room to list how each ends.
 fn end_each<R: Wait, B: Book, G: Gate, E: MetricExporter>(
     rt: &R,
     alloc: Global,
@@ -176,7 +175,7 @@ fn end_each<R: Wait, B: Book, G: Gate, E: MetricExporter>(
     ends
 }
 
-// Lets a reader collect a last time, and hands on what that gives.
+// Lets a reader collect a last time, and hands on what that returns.
 fn end_reader<R: Wait, B: Book, G: Gate, E: MetricExporter>(
     rt: &R,
     alloc: Global,
@@ -199,7 +198,7 @@ fn end_reader<R: Wait, B: Book, G: Gate, E: MetricExporter>(
     }
 }
 
-// Collects of each instrument, so that a refused one hides no other. The batches with points, and what was refused.
+// Collects each instrument, so that a refused one hides no other. Returns batches with points, and what was refused.
 fn collect_last<R: Wait, B: Book, G: Gate>(
     rt: &R,
     alloc: Global,
@@ -215,7 +214,7 @@ fn collect_last<R: Wait, B: Book, G: Gate>(
     }
 }
 
-// What a collection was refused by which these instruments were, where there is one.
+// What was refused to a collection: these instruments, or nothing if there are none.
 fn uncollected(refused: Vec<RefusedInstrument>) -> Option<Uncollected>
     ensures { AreRefused refused.items result }
 {

@@ -1,95 +1,190 @@
-//! One door for a service: all that it needs, in the order in which it meets it. What a call costs was measured on one
-//! machine and stands in whole in `docs/PERFORMANCE.md`.
+//! One crate for a service that records metrics: every call that it needs, in the order in which it meets them.
 //!
-//! 1. **Open.** Two texts declare a service: a catalogue says what may be recorded, a config which metric readers and
-//!    views there are. [`open`] reads them, makes a certificate that no limit and no number can overflow, checks it,
-//!    and starts: a [`MeterProvider`] with the seat of each recorder and each reader, in the order of the texts, or the
-//!    first [`SetupFault`]. [`open_certified`] takes a certificate that somebody else made, whom it does not trust.
-//!    [`open_with_lanes`] gives instruments several locks, so that threads which record on one do not wait for each
-//!    other, and [`open_audited`] keeps each recording. [`now`] gives the moment of the start, the one [`Runs`] of a
-//!    process the number of the run.
-//! 2. **Names.** [`counter`], [`up_down_counter`], [`histogram`] and [`gauge`] find an instrument of the plan by the
-//!    names of its meter and its own, and compare its kind and its keys with what the service is going to record: a
-//!    [`Handle`] of that kind ([`Counter`] and so on), or a [`HandleFault`] before anything was recorded.
-//!    [`take_recorder`] and [`take_reader`] take a seat out of those that `open` gave.
-//! 3. **Recording.** A thread records with a [`Recorder`]: by a handle's `add` or `record`, with the [`Attr`]s, each a
-//!    key with a [`ValueRef`], and the value. What is not counted is answered by a [`Refusal`], also attributes of
-//!    which each is declared, but not together ([`Refusal::Combination`] of the allowed [`Combinations`]);
-//!    [`explain_refusal`] gives its [`Explanation`]. Nothing is counted in another series, and no new series appears.
-//!    `Recorder::accepted` tells what the seat was [`Told`] of, [`left`] what is left of its budget. A [`Counted`] seat
-//!    counts its refusals, and handles take it as they take a recorder's (a [`Seat`]); `known_or` and `clamped` of a
-//!    handle put a declared value in the place of one that is not, counted by a [`Replaced`]. `seat.at(&rt, &provider)`
-//!    of [`AnySeat`] is an [`At`], a seat with what it records on: its `add` and `record` name the rest alone, and
-//!    `during` counts work as under way until it ends, however it does, where the seat is [`Recorded`]. An [`Asking`] seat
-//!    asks for some of a spare before its budget ends, and tells by `wants_next_run` when nothing is left.
-//! 4. **Bound attributes.** `Handle::bind` looks attributes up once; the [`Bound`] that it gives records without a
-//!    look-up, and a [`BoundList`] hands on many under one lock. Below both are set keys: `Recorder::admits` gives the
-//!    [`SetKey`] of attributes, `Recorder::record_set` records by it, and `Recorder::record_sets` a list of
-//!    [`Measurement`]s, up to a [`SetsFault`]. `Bound::timer` gives a [`Timer`], with the [`TimeUnit`] that its
-//!    histogram is declared in, or a [`TimerFault`]; `timed` of an `At` records by it how long work took, or tells a
-//!    [`TimedFault`].
-//! 5. **Export.** [`Periodic`] collects at each [`Tick`] of a [`Ticker`], a [`ClockTicker`] until its [`StopFlag`] is
-//!    set or a [`ListTicker`]; it hands each batch on to a [`MetricExporter`], as a [`TextExporter`] is, flushes that
-//!    after each collection, and at its end collects a last time. What it did, and the [`StopCause`] of its ticker, is
-//!    a [`PeriodicEnd`]; what it has done so far other threads read of its [`RunningCounts`]; `StopFlag::wake` lets it
-//!    export now. An [`Encoding`] says what a batch is as bytes, [`Plain`] its text, [`OtlpLines`] the lines that the
-//!    OpenTelemetry Collector reads of a file, [`OtlpBytes`] what an OTLP receiver takes, both with the attributes of a
-//!    [`Resource`] (or a [`ResourceFault`]); `TextExporter::of` and `ReopeningExporter::of` write in any. An exporter's
-//!    fault is an [`ExportFault`]: a [`Queued`] keeps what was refused and tries it again before the next, so that the
-//!    window of a delta reader is not lost, and a [`ReopeningExporter`] opens its sink anew; other threads read the
-//!    [`QueueCounts`] of a [`ToldQueue`]. An [`OpenPeriodic`] leaves its exporter open at its [`OpenEnd`], and goes on
-//!    in the next run; in it, and by [`collect_each`], a [`RefusedInstrument`] of a [`Collection`] hides no other.
-//!    [`export_each`] hands a list on and tells what was [`Handed`], [`has_points`] what need not be. An exporter of
-//!    one's own refuses a batch of another plan by [`own_plan`], and takes one apart: it has the [`StreamPoints`] of
-//!    each [`Stream`], a [`Point`] the [`PointValue`] of one series, whose [`attributes`] the plan knows. By hand: a
-//!    [`Collector`] collects the [`Batch`] of one instrument or of all, up to an [`AllFault`], and [`write_batch`]
-//!    writes its text, [`write_encoded`] its bytes. For Prometheus an [`Exposition`] has the lines of a page in a
-//!    [`Dialect`], and a [`PageExporter`] hands the whole page to [`Pages`] after each collection, as to a file that
-//!    node_exporter reads; two attributes of a resource of one label are a [`TargetFault`]. Before anything is
-//!    recorded, [`expose`] tells whether a server would hold each sample of a reader's pages, and [`expose_to_otlp`]
-//!    whether each boundary leaves as it is, or the first [`ExposureFault`].
-//! 6. **End.** [`shutdown_all`] lets readers collect a last time, exports what they give, flushes, and finishes the
-//!    provider; an [`EndFault`] has each cause, and hands back what is left, with the plan to export it by.
-//!    `Provider::finish` alone gives the [`Totals`], a [`Total`] for each instrument, exactly what the recorders were
-//!    told, or a [`FinishFault`]; `Provider::finish_keeping` also the plan, and `Provider::finish_partly` ends where a
-//!    recorder's seat was lost, with what is [`Partly`] known. Calls that hand things back have them in a tuple with
-//!    the fault: `?` makes a [`ServiceFault`] of each.
-//! 7. **A long life.** Budgets end: [`headrooms`] tells how often each instrument may be recorded, its [`Headroom`]. So
-//!    `Provider::roll_over` ends a run and starts the next one of the same plan, with new seats and full budgets, or
-//!    hands all back with a [`RollFault`]; [`roll_over_all`] does so with the readers and their exporter, up to a
-//!    [`RollLeft`]. For what no recorder's budget foresees an instrument may have a spare: while the run goes on,
-//!    `Provider::grant` gives some of it to any recorder, and by `Recorder::ask` a recorder whose budget is spent
-//!    ([`Refusal::Budget`]) asks for some itself, until nothing is left ([`Refusal::NoSpare`]). `Recorder::room` tells
-//!    what a recorder has left with its grants, `Provider::spare_left` what is left of a spare, and `has_room` of an
-//!    `At` whether there is room for each [`Need`] of a job that makes several recordings, so that it is begun only
-//!    where it can be made whole. The certificate vouches for the budgets and the spare together.
-//! 8. **Files that are wrong.** [`lint`] gives a [`Remark`] on each thing in the files that looks like a mistake;
-//!    [`locate_in_catalogue`] and [`locate_in_config`] give the [`Position`] of a fault, and a [`MakeFault`] has the
-//!    streams or the instrument for which there is no certificate. For people a [`Diagnosis`] says in one line where a
-//!    fault is and why, with an [`Excerpt`] of the text: [`diagnose_catalogue`] and [`diagnose_config`] of a
-//!    [`NamedText`], [`diagnose_make`] and [`diagnose_remark`] of a [`Pair`] of them, [`diagnose_certificate`] and
-//!    [`diagnose_check`] of a certificate.
-//! 9. **By steps.** What `open` does: [`Catalogue::read`] and [`Config::read`], each up to its first fault, a
-//!    [`CatalogueFault`] or a [`ViewFault`] with its place; [`make`] gives a [`Certificate`], or a [`MakeFault`];
-//!    `Certificate::write` and `Certificate::read` take it from one machine to another; [`check`] trusts nobody and
-//!    gives the certified [`Plan`], or a [`ClaimFault`], which is a [`CheckFault`] with its [`ClaimPlace`]; [`start`]
-//!    makes the [`Provider`] of a plan. [`certified_plan`] and [`vouched_plan`] give the plan of texts. What all of it
-//!    comes to is one law, [`certified_runs_are_exact`].
-//!    Wherever a value has a [`Text`] or an [`Items`], it is a `String` or a `Vec` that contracts see as a text or a
-//!    list: read it by `as_str` and `as_slice`.
-//! 10. **Other books.** A provider is generic over the book that keeps the recordings of an instrument, and over a
-//!     [`Gate`], by which a test holds threads inside a lock. Services take [`Marked`] and [`NoGate`];
-//!     [`batches_are_bounded`] says of each batch, over every book, what [`tables_are_bounded`] says of running tables;
-//!     [`windows_meet`] says that no recording and no moment is between two of them, or in both. A service that has to
-//!     prove its numbers to somebody, for billing or after an incident, starts with [`Audited`]: beside the tables it
-//!     keeps each recording, 32 bytes in the list of its instrument and 24 in the seat of its recorder, so it takes
-//!     memory as long as a run lasts, and some time more for each of them. Its totals have the journal of each
-//!     instrument, its recordings as [`Entry`], and the [`Slip`]s of each recorder; [`audit`] tells whether these and
-//!     the batches agree, or an [`AuditFault`]. [`open_audited`] opens an [`AuditedProvider`], and [`audit_run`] audits
-//!     a run of it as a whole, up to an [`Extent`], or tells a [`RunAuditFault`].
-//! 11. **Devices.** A [`Sink`] takes bytes, a [`Source`] gives them: [`StdSink`] and [`StdSource`] are those of std,
-//!     [`CutSink`] and [`CutSource`] are of memory, and a [`KeepingExporter`] keeps its batches, in which [`value_of`]
-//!     finds a point, for tests. [`read_all`] and [`write_all`] move a whole text.
+//! Two texts declare a service: a catalogue says what may be recorded, and a config which metric readers and views
+//! there are. This program opens them, records three orders, and prints what was collected:
+//!
+//! ```text
+//! use anyhow::{Context, Result};
+//! use metric_sdk::{AnySeat, Attr, Runs, StdSink, counter, open, write_batch};
+//! use std::io;
+//!
+//! const CATALOGUE: &str = "format = 1
+//! [[meter]]
+//! name = 'shop'
+//! [[meter.instrument]]
+//! name = 'orders'
+//! kind = 'counter'
+//! range = [1, 100]
+//! key = [{ name = 'country', values = ['de', 'fr'] }]
+//! [[recorder]]
+//! name = 'main'
+//! budget = [{ instrument = 0, amount = 1000 }]
+//! ";
+//!
+//! const CONFIG: &str = "format = 1\n[[reader]]\nname = 'console'\n";
+//!
+//! fn main(rt: HostRuntime) -> Result<()> {
+//!     let (alloc, mut runs) = (rt.alloc(), Runs::new());
+//!     let opened = open(&rt, alloc, CATALOGUE, CONFIG, 0, &mut runs)?;
+//!     let (provider, mut recorders, mut readers) = opened;
+//!     let orders = counter(provider.plan(), "shop", "orders", &["country"])?;
+//!     let recorder = recorders.first_mut().context("no recorder")?;
+//!     let mut at = recorder.at(&rt, &provider);
+//!     for (country, articles) in [("de", 2), ("fr", 1), ("de", 5)] {
+//!         at.add(&orders, &[Attr::text("country", country)], articles)?;
+//!     }
+//!     let reader = readers.first_mut().context("no reader")?;
+//!     let batch = reader.collect(&rt, alloc, &provider, orders.number(), 1_000)?;
+//!     let mut console = StdSink::new(io::writer(&rt));
+//!     write_batch(alloc, &mut console, provider.plan(), &batch)?;
+//!     Ok(())
+//! }
+//! ```
+//!
+//! The rest of this page follows the life of a service. What calls cost was measured on one machine
+//! (`docs/PERFORMANCE.md`).
+//!
+//! # Open
+//!
+//! [`open`] reads the two texts, makes a certificate that no limit and no number can overflow, checks it, and starts.
+//! It returns a [`MeterProvider`] with a seat for each recorder and each reader, in the order of the texts, or the
+//! first [`SetupFault`]. [`now`] gives the moment of the start, and the one [`Runs`] of a process the number of the
+//! run.
+//!
+//! - [`open_certified`] takes a certificate that somebody else made, and does not trust them.
+//! - [`open_with_lanes`] gives instruments several locks, so that threads recording on one do not wait for each other.
+//! - [`open_audited`] keeps each recording ([Other books](#other-books)).
+//!
+//! # Look up
+//!
+//! [`counter`], [`up_down_counter`], [`histogram`] and [`gauge`] find an instrument of the plan by its meter and its
+//! name, and compare its kind and its keys with what the service is going to record. They return a [`Handle`] of that
+//! kind ([`Counter`] and so on), or a [`HandleFault`] before anything is recorded. [`take_recorder`] and
+//! [`take_reader`] take a seat out of those that `open` returned.
+//!
+//! # Record
+//!
+//! A thread records with a [`Recorder`]: a handle's `add` or `record` takes the value and the [`Attr`]s, each a key
+//! with a [`ValueRef`]. A recording that is not counted returns a [`Refusal`], and [`explain_refusal`] its
+//! [`Explanation`]. It is never counted in another series, and no new series appears. Attributes that are each
+//! declared, but not together, are refused too ([`Refusal::Combination`] of the allowed [`Combinations`]).
+//!
+//! `seat.at(&rt, &provider)` of [`AnySeat`] is an [`At`]: a seat together with what it records on. Its `add` and
+//! `record` name only the rest. If the seat is [`Recorded`], its `during` counts work as in progress until it ends,
+//! however it ends.
+//!
+//! - `Recorder::accepted` says what the seat was [`Told`], and [`left`] how much of its budget is left.
+//! - A [`Counted`] seat counts its refusals; handles take it as they take a recorder's (a [`Seat`]).
+//! - `known_or` and `clamped` of a handle replace an undeclared value by a declared one; a [`Replaced`] counts that.
+//! - An [`Asking`] seat asks for some of a spare before its budget runs out; `wants_next_run` says when none is left.
+//!
+//! # Record faster
+//!
+//! `Handle::bind` looks attributes up once. The [`Bound`] that it returns records without a look-up, and a
+//! [`BoundList`] hands on many recordings under one lock. `Bound::timer` gives a [`Timer`], with the [`TimeUnit`] that
+//! its histogram is declared in, or a [`TimerFault`]; `timed` of an `At` records with it how long work took, or returns
+//! a [`TimedFault`].
+//!
+//! Below both are set keys: `Recorder::admits` gives the [`SetKey`] of attributes, `Recorder::record_set` records with
+//! it, and `Recorder::record_sets` records a list of [`Measurement`]s, up to a [`SetsFault`].
+//!
+//! # Export
+//!
+//! A [`Periodic`] collects at each [`Tick`] of a [`Ticker`]: a [`ClockTicker`] until its [`StopFlag`] is set, or a
+//! [`ListTicker`]. It hands each batch to a [`MetricExporter`], flushes it after each collection, and collects a last
+//! time at its end. Its [`PeriodicEnd`] says what it did, with the [`StopCause`] of its ticker. Meanwhile other threads
+//! read its [`RunningCounts`], and `StopFlag::wake` makes it export now.
+//!
+//! A [`TextExporter`] writes each batch with an [`Encoding`]: [`Plain`] is its text, [`OtlpLines`] the lines of a file
+//! that the OpenTelemetry Collector reads, and [`OtlpBytes`] what an OTLP receiver takes. The latter two add the
+//! attributes of a [`Resource`] (or return a [`ResourceFault`]). `TextExporter::of` and `ReopeningExporter::of` take
+//! any encoding.
+//!
+//! An export can fail with an [`ExportFault`]. A [`Queued`] keeps what was refused and retries it before the next
+//! batch, so that the window of a delta reader is not lost; other threads read the [`QueueCounts`] of a [`ToldQueue`].
+//! A [`ReopeningExporter`] opens its sink anew.
+//!
+//! An [`OpenPeriodic`] leaves its exporter open at its [`OpenEnd`], and goes on in the next run. In it, and in
+//! [`collect_each`], a [`RefusedInstrument`] of a [`Collection`] hides no other. [`export_each`] exports a list and
+//! says what was [`Handed`] on; [`has_points`] says which batches need not be.
+//!
+//! An exporter of your own refuses a batch of another plan with [`own_plan`]. A batch has the [`StreamPoints`] of each
+//! [`Stream`], and a [`Point`] the [`PointValue`] of one series, whose [`attributes`] the plan knows. To collect by
+//! hand, a [`Collector`] collects the [`Batch`] of one instrument or of all, up to an [`AllFault`]; [`write_batch`]
+//! writes a batch as text, and [`write_encoded`] as bytes.
+//!
+//! For Prometheus, an [`Exposition`] has the lines of a page in a [`Dialect`], and a [`PageExporter`] hands the whole
+//! page to [`Pages`] after each collection, such as a file that node_exporter reads. Two attributes of a resource with
+//! one label are a [`TargetFault`]. Before anything is recorded, [`expose`] says whether a server would hold each
+//! sample of a reader's pages, and [`expose_to_otlp`] whether each boundary leaves as it is, or the first
+//! [`ExposureFault`].
+//!
+//! # Live long
+//!
+//! Budgets run out. [`headrooms`] says how often each instrument may be recorded: its [`Headroom`].
+//! `Provider::roll_over` ends a run and starts the next one of the same plan, with new seats and full budgets, or hands
+//! everything back with a [`RollFault`]. [`roll_over_all`] does so with the readers and their exporter, up to a
+//! [`RollLeft`].
+//!
+//! For what no recorder's budget foresees, an instrument may have a spare. During the run, `Provider::grant` gives some
+//! of it to any recorder, and a recorder whose budget is spent ([`Refusal::Budget`]) asks with `Recorder::ask`, until
+//! nothing is left ([`Refusal::NoSpare`]). The certificate vouches for the budgets and the spare together.
+//! `Recorder::room` says what a recorder has left with its grants, and `Provider::spare_left` what is left of a spare.
+//! `has_room` of an `At` says whether there is room for each [`Need`] of a job that makes several recordings, so that
+//! the job is begun only if it can be finished.
+//!
+//! # End
+//!
+//! [`shutdown_all`] lets readers collect a last time, exports what they return, flushes, and finishes the provider. An
+//! [`EndFault`] has each cause, and hands back what is left, with the plan to export it by. `Provider::finish` alone
+//! returns the [`Totals`], a [`Total`] for each instrument, exactly what the recorders were told, or a [`FinishFault`].
+//! `Provider::finish_keeping` also returns the plan, and `Provider::finish_partly` ends a run in which a recorder's
+//! seat was lost, with what is [`Partly`] known. Calls that hand things back return them in a tuple with the fault; `?`
+//! makes a [`ServiceFault`] of each.
+//!
+//! # Files that are wrong
+//!
+//! [`lint`] returns a [`Remark`] on each thing in the files that looks like a mistake. [`locate_in_catalogue`] and
+//! [`locate_in_config`] give the [`Position`] of a fault, and a [`MakeFault`] has the streams or the instrument for
+//! which there is no certificate. For people, a [`Diagnosis`] says in one line where a fault is and why, with an
+//! [`Excerpt`] of the text: [`diagnose_catalogue`] and [`diagnose_config`] of a [`NamedText`], [`diagnose_make`] and
+//! [`diagnose_remark`] of a [`Pair`] of them, [`diagnose_certificate`] and [`diagnose_check`] of a certificate.
+//!
+//! # Step by step
+//!
+//! What `open` does, one call at a time:
+//!
+//! 1. [`Catalogue::read`] and [`Config::read`] return the first fault, a [`CatalogueFault`] or a [`ViewFault`] with its
+//!    place.
+//! 2. [`make`] returns a [`Certificate`], or a [`MakeFault`]. `Certificate::write` and `Certificate::read` take it from
+//!    one machine to another.
+//! 3. [`check`] trusts nobody. It returns the certified [`Plan`], or a [`ClaimFault`]: a [`CheckFault`] with its
+//!    [`ClaimPlace`].
+//! 4. [`start`] makes the [`Provider`] of a plan.
+//!
+//! [`certified_plan`] and [`vouched_plan`] return the plan of texts. What all of it comes to is one law,
+//! [`certified_runs_are_exact`]. A [`Text`] or an [`Items`] is a `String` or a `Vec` that contracts see as a text or a
+//! list: read it with `as_str` and `as_slice`.
+//!
+//! # Other books
+//!
+//! A provider is generic over the book that keeps the recordings of an instrument, and over a [`Gate`], with which a
+//! test holds threads inside a lock. Services use [`Marked`] and [`NoGate`]. [`batches_are_bounded`] says of each
+//! batch, over every book, what [`tables_are_bounded`] says of running tables; [`windows_meet`] says that no recording
+//! and no moment is between two of them, or in both.
+//!
+//! A service that has to prove its numbers to somebody, for billing or after an incident, starts with [`Audited`]. It
+//! keeps each recording beside the tables, 32 bytes in the list of its instrument and 24 in the seat of its recorder:
+//! its memory grows as long as a run lasts, and each recording takes somewhat longer. Its totals have the journal of
+//! each instrument, its recordings as [`Entry`], and the [`Slip`]s of each recorder; [`audit`] says whether these and
+//! the batches agree, or returns an [`AuditFault`]. [`open_audited`] opens an [`AuditedProvider`], and [`audit_run`]
+//! audits a whole run of it, up to an [`Extent`], or returns a [`RunAuditFault`].
+//!
+//! # Devices
+//!
+//! A [`Sink`] takes bytes and a [`Source`] gives them. [`StdSink`] and [`StdSource`] are those of std, and [`CutSink`]
+//! and [`CutSource`] are in memory. For tests, a [`KeepingExporter`] keeps its batches, in which [`value_of`] finds a
+//! point. [`read_all`] and [`write_all`] move a whole text.
 #![tactic(auto)]
 
 mod ended;
@@ -167,24 +262,18 @@ pub use metric_diagnosis::diagnose_check;
 pub use metric_diagnosis::diagnose_config;
 pub use metric_diagnosis::diagnose_make;
 pub use metric_diagnosis::diagnose_remark;
-pub use metric_export::ClockTicker;
 pub use metric_export::Encoding;
 pub use metric_export::ExportFault;
 pub use metric_export::ExporterState;
 pub use metric_export::Handed;
 pub use metric_export::KeepingExporter;
-pub use metric_export::ListTicker;
 pub use metric_export::MetricExporter;
 pub use metric_export::OpenSink;
 pub use metric_export::Plain;
 pub use metric_export::QueueCounts;
 pub use metric_export::Queued;
 pub use metric_export::ReopeningExporter;
-pub use metric_export::StopCause;
-pub use metric_export::StopFlag;
 pub use metric_export::TextExporter;
-pub use metric_export::Tick;
-pub use metric_export::Ticker;
 pub use metric_export::ToldQueue;
 pub use metric_export::attributes;
 pub use metric_export::export_each;
@@ -262,13 +351,19 @@ pub use metric_outlets::OtlpBytes;
 pub use metric_outlets::OtlpLines;
 pub use metric_outlets::PageExporter;
 pub use metric_outlets::Pages;
+pub use metric_periodic::ClockTicker;
 pub use metric_periodic::Collection;
+pub use metric_periodic::ListTicker;
 pub use metric_periodic::OpenEnd;
 pub use metric_periodic::OpenPeriodic;
 pub use metric_periodic::Periodic;
 pub use metric_periodic::PeriodicEnd;
 pub use metric_periodic::RefusedInstrument;
 pub use metric_periodic::RunningCounts;
+pub use metric_periodic::StopCause;
+pub use metric_periodic::StopFlag;
+pub use metric_periodic::Tick;
+pub use metric_periodic::Ticker;
 pub use metric_periodic::collect_each;
 pub use metric_plan::CheckFault;
 pub use metric_plan::Plan;

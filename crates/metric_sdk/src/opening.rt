@@ -8,7 +8,7 @@ ghost use Rattle.metric_setup.specs.Setups.{IsCertifiedPlan, IsFirstClaimFault, 
 use crate::provider::{AuditedProvider, MeterProvider};
 use crate::runs::Runs;
 use metric_audit::Audited;
-use metric_book::Book;
+use metric_history::Book;
 use metric_plan::Plan;
 use metric_provider::{Collector, NoGate, Provider, Recorder, start_with_lanes};
 use metric_setup::{SetupFault, certified_plan, vouched_plan};
@@ -22,8 +22,8 @@ use std::sync::Wait;
 ///
 /// # Errors
 ///
-/// Those of [`certified_plan`]; [`SetupFault::Memory`] also where there is no memory for the provider. No number is
-/// given then.
+/// Those of [`certified_plan`]; [`SetupFault::Memory`] also when out of memory for the provider. No number is given
+/// then.
 pub fn open<R: Wait>(
     rt: &R,
     alloc: Global,
@@ -80,11 +80,11 @@ pub fn open_with_lanes<R: Wait>(
     started(rt, alloc, plan, lanes, now, runs)
 }
 
-/// [`open`] with a certificate that somebody else made, whom nobody trusts: it is read and checked, and none is made.
+/// [`open`] with a certificate that somebody else made, who is not trusted: it is read and checked, and none is made.
 ///
 /// # Errors
 ///
-/// Those of [`vouched_plan`]; [`SetupFault::Memory`] also where there is no memory for the provider.
+/// Those of [`vouched_plan`]; [`SetupFault::Memory`] also when out of memory for the provider.
 pub fn open_certified<R: Wait>(
     rt: &R,
     alloc: Global,
@@ -140,7 +140,7 @@ pub fn open_audited<R: Wait>(
     started::<R, Audited>(rt, alloc, plan, 1, now, runs)
 }
 
-// The provider of a certified plan with its seats. Only want of memory refuses it.
+// The provider of a certified plan with its seats. It is refused only when out of memory.
 fn started<R: Wait, B: Book>(
     rt: &R,
     alloc: Global,

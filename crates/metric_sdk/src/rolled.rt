@@ -1,18 +1,18 @@
-//! What is left of a roll-over that was refused something.
+//! What is left of a roll-over that did not end cleanly.
 ghost use Rattle.std.specs.Prelude.{◌≡◌, IfErr, IfOk, Ok, OnOk, false, true};
 ghost use Rattle.std.specs.List.{list_all};
 ghost use Rattle.metric_sdk.specs.Endings.{is_exported};
 
 use crate::ended::{ReaderEnd, write_end, write_settled};
-use metric_book::Book;
 use metric_export::ExportFault;
+use metric_history::Book;
 use metric_provider::{Collector, Gate, Provider, Recorder, RollFault, Rolled};
 use std::fmt;
 
 /// Why a provider did not roll over.
 #[derive(Clone, Copy, Debug, PartialEq, Eq, Drop)]
 pub enum Unrollable {
-    /// The last collection of a reader was refused an instrument, or was not made: what that recorded would be missing.
+    /// The last collection of a reader was refused an instrument, or was not made: its recordings would be missing.
     Uncollected,
     /// The provider refused it.
     Refused(RollFault),
@@ -29,19 +29,19 @@ pub struct Unrolled<B: Book, G: Gate> {
     pub fault: Unrollable,
 }
 
-/// What is left of a roll-over that was refused something, with each cause.
+/// What is left of a roll-over that did not end cleanly, with each cause.
 #[derive(Drop)]
 pub struct RollLeft<B: Book, G: Gate> {
     /// The next run, or the provider and the seats of its recorders. Either has the plan, by which what was not
     /// exported can be exported.
     pub rolled: Result<Rolled<B, G>, Unrolled<B, G>>,
-    /// How each reader ended, in order. Their seats go on where the provider does.
+    /// How each reader ended, in order. Their seats go on if the provider does.
     pub readers: Vec<ReaderEnd>,
-    /// All readers, where there was no memory to tell how they end: then none was asked.
+    /// All readers, if memory ran out before listing how they end: then none was asked.
     pub unasked: Vec<Collector>,
-    /// Why the exporter did not send all that it keeps, where it did not: it keeps that still.
+    /// Why the exporter did not send everything it keeps, if it did not: it still keeps that.
     pub unsent: Option<ExportFault>,
-    /// Why the exporter was not flushed, where it was not.
+    /// Why the exporter was not flushed, if it was not.
     pub unflushed: Option<ExportFault>,
 }
 

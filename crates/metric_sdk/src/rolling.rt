@@ -8,8 +8,8 @@ ghost use Rattle.metric_sdk.specs.Rolls.{IsRolled, IsUnrolled};
 
 use crate::last::{LastEnds, are_clean, are_collected, end_all};
 use crate::rolled::{RollLeft, Unrollable, Unrolled};
-use metric_book::Book;
 use metric_export::MetricExporter;
+use metric_history::Book;
 use metric_provider::{Collector, Gate, Provider, Recorder, Rolled};
 use std::alloc::Global;
 use std::sync::Wait;
@@ -73,7 +73,7 @@ pub fn roll_over_all<R: Wait, B: Book, G: Gate, E: MetricExporter>(
     }
 }
 
-// The next run where nothing is left, else what is left.
+// The next run if nothing is left, else what is left.
 fn told<B: Book, G: Gate>(
     rolled: Result<Rolled<B, G>, Unrolled<B, G>>,
     last: LastEnds,
@@ -103,7 +103,7 @@ fn told<B: Book, G: Gate>(
     })
 }
 
-// The next run, where each reader has collected of each instrument; else the provider with the seats of its recorders.
+// The next run, if each reader has collected each instrument; else the provider with the seats of its recorders.
 fn rolled<R: Wait, B: Book, G: Gate>(
     rt: &R,
     alloc: Global,

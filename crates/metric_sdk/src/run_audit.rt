@@ -16,7 +16,7 @@ use std::alloc::Global;
 ///
 /// # Errors
 ///
-/// The first [`RunAuditFault`]. `Memory` comes in the place of any.
+/// The first [`RunAuditFault`]. `Memory` can come in place of any.
 pub fn audit_run(
     alloc: Global,
     plan: &Plan,

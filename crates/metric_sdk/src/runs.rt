@@ -7,12 +7,12 @@ use std::io;
 use std::marker::Model;
 use std::time::{Clock, SystemTime, UNIX_EPOCH};
 
-/// The system's clock in nanoseconds since 1970, as a [`ClockTicker`](crate::ClockTicker) gives it: 2^64 - 1 where
-/// there are more, after the year 2554. Of the clock nothing is proved.
+/// The system's clock in nanoseconds since 1970, as a [`ClockTicker`](crate::ClockTicker) gives it: 2^64 - 1 if there
+/// are more, after the year 2554. Nothing is proved about the clock.
 ///
 /// # Errors
 ///
-/// Where the clock cannot be read, or stands before 1970.
+/// If the clock cannot be read, or shows a time before 1970.
 pub fn now<R: Clock>(rt: &R) -> io::Result<u64> {
     Ok(nanoseconds_at(SystemTime::now(rt)?))
 }
@@ -46,7 +46,7 @@ impl Model for Runs {
 }
 
 impl Runs {
-    /// No number is given yet.
+    /// No number has been given yet.
     pub fn new() -> Runs
         ensures { result ≡ 0 }
     {

@@ -1,9 +1,9 @@
 //! One error for the calls of a service.
-use metric_book::Book;
 use metric_catalogue::Catalogue;
 use metric_check::ClaimFault;
 use metric_contents::Refusal;
 use metric_export::ExportFault;
+use metric_history::Book;
 use metric_plan::{CheckFault, Plan};
 use metric_provider::{
     AllFault, Collector, FinishFault, Gate, Provider, Recorder, RollFault, SetsFault,
@@ -17,7 +17,7 @@ use thiserror::Error;
 /// of the plain faults; what was handed back is let go, so where it is to be kept, look into the error first.
 #[derive(Clone, Copy, Debug, PartialEq, Eq, Drop, Error)]
 pub enum ServiceFault {
-    /// Two texts, or three, come to no certified plan.
+    /// Two texts, or three, do not give a certified plan.
     #[error("{0}")]
     Setup(SetupFault),
     /// A certificate does not show that a catalogue and a config are safe.
@@ -38,10 +38,10 @@ pub enum ServiceFault {
     /// A provider was not finished.
     #[error("finish {0}")]
     Finish(FinishFault),
-    /// A provider did not go over into its next run.
+    /// A provider did not roll over.
     #[error("roll over: {0}")]
     Roll(RollFault),
-    /// Memory was refused.
+    /// Out of memory.
     #[error("memory")]
     Memory,
 }

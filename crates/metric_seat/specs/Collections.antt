@@ -72,7 +72,7 @@ pub record IsRefusedAt (p : ProviderValue) (seat : CollectorValue) (now instrume
   pub answer : AnswersCollector (collectable p seat instrument) seat instrument now (Err refusal)
 
 -- What a collection of all instruments at a time was refused for: the instrument after those that
--- have a batch refused, or there was no memory for the list.
+-- have a batch refused, or memory ran out for the list.
 pub record AllRefused (p : ProviderValue) (seat : CollectorValue) (now : ℕ) (done : List Batch)
     (instrument : ℕ) (refusal : Refusal) : Type 0 where
   pub before : length done ≡ instrument

@@ -4,7 +4,7 @@ use Rattle.std.specs.Prelude.{length, map, slice_get, take}
 use Rattle.std.specs.Option.{option_map_or}
 use Rattle.metric_base.specs.Steps.{◌>>=◌, require, require_some}
 use Rattle.metric_combinations.specs.Combinations.{permits}
-use Rattle.metric_book.specs.declared.slip.Slip.{Slip}
+use Rattle.metric_history.specs.declared.slip.Slip.{Slip}
 use Rattle.metric_contents.specs.declared.refusal.Refusal.{Refusal}
 use Rattle.metric_contents.specs.declared.refusal.Refusal.TheVariants.{Stranger, UnknownInstrument}
 use Rattle.metric_contents.specs.declared.refusal.Refusal.TheVariants.{UnknownValue, Combination}

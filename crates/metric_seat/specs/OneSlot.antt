@@ -1,6 +1,6 @@
 -- What a slot makes of the calls of a seat.
 use Rattle.std.specs.Prelude.{◌≡◌, ◌≢◌, ℕ, ℤ, IfSome, List, Result, Ok, Err, slice_get}
-use Rattle.metric_book.specs.Journals.{Standing}
+use Rattle.metric_history.specs.Journals.{Standing}
 use Rattle.metric_contents.specs.declared.refusal.Refusal.{Refusal}
 use Rattle.metric_contents.specs.declared.refusal.Refusal.TheVariants.{Memory}
 use Rattle.metric_core.specs.CellAnswers.{KeepsJournal, ReportsBatch, entry_of, with_batch}

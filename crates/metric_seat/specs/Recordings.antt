@@ -2,7 +2,7 @@
 use Rattle.std.specs.Prelude.{◌≡◌, ◌<◌, ◌≤◌, IfSome, ℕ, ℤ, Bool, true, false, List, [], ◌∷◌, ◌++◌}
 use Rattle.std.specs.Prelude.{Result, Ok, Err, Some, length, slice_get, slice_index, slice_index_or}
 use Rattle.std.specs.Prelude.{slice_set, if◌then◌else◌}
-use Rattle.metric_book.specs.declared.slip.Slip.{Slip}
+use Rattle.metric_history.specs.declared.slip.Slip.{Slip}
 use Rattle.metric_base.specs.Steps.{◌>>=◌, require, require_some}
 use Rattle.metric_contents.specs.Encoding.{Given, encode_of}
 use Rattle.metric_contents.specs.declared.refusal.Refusal.{Refusal}
@@ -80,8 +80,8 @@ with_recording seat instrument own value = record seat {
 
 -- ---- slips
 
--- recordings by a seat take no memory: none for the book, and none for
--- slips, since it keeps no entries
+-- recordings by a seat allocate no memory: none for the book, and none for slips, since it keeps no
+-- entries
 abbrev pub SeatSpares : Bool → (Facts → Type 0) → Facts → Type 0
 SeatSpares keeps spares_memory own = (keeps ≡ false) × spares_memory own
 
@@ -108,8 +108,7 @@ IsToldOf keeps (Ok set) plan old new instrument value =
     IfSome (slice_get plan.facts.instruments instrument)
     (λ (own : Facts). new ≡ with_slip keeps old instrument own set value)
 
--- what refuses a slip before the lock: the seat has no list for the
--- instrument, or memory was refused
+-- what refuses a slip before the lock: the seat has no list for the instrument, or memory ran out
 abbrev pub RefusesSlip : Refusal → Type 0
 RefusesSlip Stranger = Unit {0}
 RefusesSlip Memory = Unit {0}

@@ -1,7 +1,7 @@
 -- Providers and their seats.
 use Rattle.std.specs.Prelude.{ℕ, Bool, ◌&&◌, List, [], length, nat_lt, replicate, slice_index_or}
 use Rattle.std.specs.Prelude.{◌==◌, if◌then◌else◌}
-use Rattle.metric_book.specs.declared.slip.Slip.{Slip}
+use Rattle.metric_history.specs.declared.slip.Slip.{Slip}
 use Rattle.metric_plan.specs.Plans.{PlanValue}
 use Rattle.metric_slot.specs.declared.seen.Seen.{Seen}
 use Rattle.metric_slot.specs.declared.told.Told.{Told}

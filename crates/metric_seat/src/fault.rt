@@ -40,7 +40,7 @@ pub enum FinishFault {
     Stranger,
     /// An instrument's state is not that of the plan and of what its recorders were told.
     AuditMismatch,
-    /// Memory was refused.
+    /// Out of memory.
     Memory,
 }
 

@@ -13,10 +13,9 @@ ghost use Rattle.metric_slot.specs.Sightings.{seen_of};
 
 use crate::fault::SetsFault;
 use crate::keys::Measurement;
-use metric_book::Book;
 use metric_contents::Refusal;
 use metric_facts::Facts;
-use metric_history::Batch;
+use metric_history::{Batch, Book};
 use metric_slot::{Seen, Slot, Told};
 use std::alloc::Global;
 

@@ -3,7 +3,7 @@ ghost use Rattle.std.specs.Prelude.{◌≡◌, ◌≤◌, ◌+◌, ◌-◌, [], 
 ghost use Rattle.metric_seat.specs.KeyRecordings.{slip_of_one};
 
 use crate::keys::Measurement;
-use metric_book::Slip;
+use metric_history::Slip;
 use std::alloc::{AllocError, Global};
 use std::marker::Model;
 
@@ -15,7 +15,7 @@ pub(crate) struct Notes {
 
 impl Model for Notes {
     ghost use Rattle.std.specs.Prelude.{List};
-    ghost use Rattle.metric_book.specs.declared.slip.Slip.{Slip};
+    ghost use Rattle.metric_history.specs.declared.slip.Slip.{Slip};
 
     ghost Value = { List Slip };
 
@@ -23,7 +23,7 @@ impl Model for Notes {
 }
 
 impl Notes {
-    // No slips. Takes no memory.
+    // No slips. Allocates no memory.
     fn new(alloc: Global) -> Notes
         ensures { result ≡ [] }
     {
@@ -32,7 +32,7 @@ impl Notes {
         }
     }
 
-    /// A slip of each recording, after those so far. Where memory is refused, none is made.
+    /// A slip of each recording, after those so far. When out of memory, none is made.
     pub(crate) fn add_each(&mut self, all: &[Measurement]) -> Result<(), AllocError>
         ensures ok { OnOk result (self.new ≡ self.old ++ map slip_of_one all.now) }
         ensures err { OnErr result (self.new ≡ self.old) }

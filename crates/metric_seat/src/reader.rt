@@ -42,7 +42,7 @@ impl Model for ReaderSeat {
 
 impl ReaderSeat {
     /// The seat of the reader of this number in the run of this number, which started at a time in nanoseconds, for so
-    /// many instruments; it has seen nothing. Fails only where memory is refused.
+    /// many instruments; it has seen nothing. Fails only when out of memory.
     pub fn new(
         alloc: Global,
         run: u64,

@@ -14,9 +14,9 @@ use crate::fault::SetsFault;
 use crate::held::Held;
 use crate::keys::{Measurement, recording_of};
 use crate::notes::{Notes, no_notes};
-use metric_book::{Book, Slip};
 use metric_contents::{Attr, Refusal, SetKey};
 use metric_facts::laws::attributes_name_allowed_sets;
+use metric_history::{Book, Slip};
 use metric_plan::Plan;
 use metric_slot::{Slot, Told};
 use std::alloc::{AllocError, Global};
@@ -53,7 +53,7 @@ impl Model for RecorderSeat {
 
 impl RecorderSeat {
     /// The seat of the recorder of this number in the run of this number, which was told of nothing, for so many
-    /// instruments, and whether it keeps slips. Fails only where memory is refused.
+    /// instruments, and whether it keeps slips. Fails only when out of memory.
     pub fn new(
         alloc: Global,
         run: u64,
@@ -87,7 +87,7 @@ impl RecorderSeat {
 
     /// Makes recordings of one instrument by their set keys, in order and in one call of what holds it, up to the first
     /// that is refused. The seat is told of exactly those before the refused one, and has slips of them where it keeps
-    /// any. An empty list is accepted of any seat. Takes no memory of its own but for slips.
+    /// any. An empty list is accepted of any seat. Allocates no memory of its own but for slips.
     ///
     /// # Errors
     ///
@@ -363,7 +363,7 @@ impl RecorderSeat {
     }
 
     /// The set key of attributes for the instrument of this number, or the first refusal of `UnknownInstrument` and
-    /// those of the attributes in their order. Who records one set of attributes often finds its key once. Takes no
+    /// those of the attributes in their order. Who records one set of attributes often finds its key once. Allocates no
     /// memory.
     pub fn prepare(
         &self,
@@ -380,7 +380,7 @@ impl RecorderSeat {
     /// The set key of a recording of this value on the instrument of this number that the seat may make, or the first
     /// refusal: `Stranger` where the run is of another number, the seat was made for another number of instruments, or
     /// the plan has no recorder of its number; `UnknownInstrument`, those of the attributes in their order, the last of
-    /// them `Combination` where they are none of the instrument's allowed combinations, and `ValueRange`. Takes no
+    /// them `Combination` where they are none of the instrument's allowed combinations, and `ValueRange`. Allocates no
     /// memory.
     pub fn admit(
         &self,

@@ -2,8 +2,8 @@
 ghost use Rattle.std.specs.Prelude.{◌≡◌};
 ghost use Rattle.metric_seat.specs.Settlements.{Numbers};
 
-use metric_book::Book;
 use metric_core::Cell;
+use metric_history::Book;
 
 /// What has counted the recordings of one instrument: its state, or several states that have them together.
 pub trait Tally {

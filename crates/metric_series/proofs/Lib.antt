@@ -1,5 +1,5 @@
 mod Putting
-mod Variants
+mod EitherLaws
 mod Placing
 pub mod LongerWindow
 pub mod Adding

@@ -7,7 +7,7 @@ use std::alloc::AllocError;
 pub enum SeriesFault {
     /// The sum or the count of the series into which the value falls would leave its range.
     SumRange,
-    /// Memory was refused.
+    /// Out of memory.
     Memory,
 }
 

@@ -273,7 +273,8 @@ fn fitting<A: Aggregate>(aggregate: &A, value: i64, place: Place) -> Option<Plac
     }
 }
 
-// Puts an empty aggregate last, of a series that is not there. Few recordings come here, so it stands apart from what all do.
+// Puts an empty aggregate last, of a series that is not there. Few recordings come here, so it stands apart from what
+// all do.
 #[inline(never)]
 fn put_empty<A: Aggregate>(
     series: &mut IndexMap<SeriesKey, A, Seeded>,

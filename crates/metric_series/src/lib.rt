@@ -6,6 +6,7 @@
 //! whose contract says all of this.
 #![tactic(auto)]
 
+mod either;
 mod fault;
 mod hashed;
 mod kept;
@@ -15,6 +16,7 @@ mod seeded;
 mod series_table;
 mod table;
 
+pub use either::Either;
 pub use fault::SeriesFault;
 pub use hashed::TableOf;
 pub use place::Place;

@@ -46,7 +46,7 @@ pub trait Table: Drop {
         ensures ok { IfOk result (is_ready self.old self.new set.now value) }
         ensures err { OnErr result (self.new ≡ self.old) };
 
-    /// Adds the value for which the table was made ready, at its place. Takes no memory.
+    /// Adds the value for which the table was made ready, at its place. Allocates no memory.
     fn put(&mut self, place: Place, value: i64)
         requires { (old : Self) × (set : List ℕ) × is_ready old self.old set value place }
         ensures places { KeepsPlaces takes has_room self.old self.new }
@@ -59,10 +59,10 @@ pub trait Table: Drop {
         ensures restored { (old : Self) (set : List ℕ) (value : ℤ)
             → is_ready old self.old set value place → self.new ≡ old };
 
-    /// Adds a value to the series of a set: to the series of the kept keys' values where it is held or a place
-    /// is left, else to the overflow series. `SumRange` comes exactly where that series would leave its
-    /// range. A refused value changes nothing. A value of a held series takes no memory, nor does any where the table
-    /// has room for all values.
+    /// Adds a value to the series of a set: to the series of the kept keys' values where it is held or a place is left,
+    /// else to the overflow series. `SumRange` comes exactly where that series would leave its range. A refused value
+    /// changes nothing. A value of a held series allocates no memory, nor does any where the table has room for all
+    /// values.
     fn add(&mut self, set: &SetKey, value: i64) -> Result<(), SeriesFault>
         requires { takes self.old set.now }
         ensures in_range { JudgesRange (stands self.old) set.now value result }
@@ -77,15 +77,15 @@ pub trait Table: Drop {
         Ok(())
     }
 
-    /// Forgets all recordings, and what the table was made ready for. Takes no memory.
+    /// Forgets all recordings, and what the table was made ready for. Allocates no memory.
     fn reset(&mut self)
         ensures places { KeepsPlaces takes has_room self.old self.new }
         ensures forgets { ForgetsAll (stands self.old) (stands self.new) }
         ensures readied { (old : Self) (set : List ℕ) (value : ℤ) (place : places)
             → is_ready old self.old set value place → ForgetsAll (stands old) (stands self.new) };
 
-    /// The points of the held series in ascending order of their set keys, then the overflow point where some
-    /// value fell into the overflow series. Fails only where memory is refused.
+    /// The points of the held series in ascending order of their set keys, then the overflow point where some value
+    /// fell into the overflow series. Fails only when out of memory.
     fn points(&self, alloc: Global) -> Result<Vec<Point>, AllocError>
         ensures { IfOk result (λ points. ReportsPoints (stands self.now) points.items) };
 }

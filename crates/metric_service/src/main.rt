@@ -14,7 +14,7 @@ use json_lines::JsonLines;
 use metric_sdk::{
     AnySeat, Attr, BoundCounter, ClockTicker, Collector, Counted, Counter, Gauge, Histogram,
     MeterProvider, MetricExporter, NamedText, OtlpLines, Periodic, Plan, Recorder, Resource, Runs,
-    ServiceFault, SetupFault, StdSink, StopFlag, TextExporter, UpDownCounter, counter,
+    ServiceFault, SetupFault, StdSink, StopFlag, TextExporter, Totals, UpDownCounter, counter,
     diagnose_catalogue, diagnose_config, expose_to_otlp, gauge, histogram, now, open_with_lanes,
     take_reader, up_down_counter,
 };
@@ -22,6 +22,7 @@ use std::alloc::Global;
 use std::env;
 use std::fs::{self, File, OpenOptions};
 use std::io::Stdout;
+use std::rt::Files;
 use std::sync::Wait;
 use std::thread::{Threads, for_each_mut, join};
 use std::time::Clock;
@@ -40,8 +41,14 @@ const SERVED: [[Request; 2]; 4] = [
 // How many lanes an instrument may have: one for each worker, so that none waits for another.
 const LANES: u32 = 4;
 
+// A provider, and the seats of its recorders and readers.
+type Opened = (MeterProvider, Vec<Recorder>, Vec<Collector>);
+
 // The seat of a worker, which counts what it is refused, and how many requests the worker has served.
 type Worker = (Counted, u64);
+
+// How many requests were served, and how many recordings of each instrument were refused.
+type Counts = (u64, [u64; 7]);
 
 // What the workers share: the instruments, found by their names.
 #[derive(Drop)]
@@ -104,25 +111,8 @@ fn main(rt: HostRuntime) -> Result<()> {
     let [_, catalogue, config, file] = words.as_slice() else {
         bail!("usage: metric_service CATALOGUE CONFIG FILE");
     };
-    let (catalogue_text, config_text) = (
-        fs::read_to_string(&rt, catalogue.as_str())?,
-        fs::read_to_string(&rt, config.as_str())?,
-    );
-    let catalogue = NamedText {
-        name: catalogue.as_str(),
-        text: catalogue_text.as_str(),
-    };
-    let config = NamedText {
-        name: config.as_str(),
-        text: config_text.as_str(),
-    };
-    let file = added_to().open(&rt, file.as_str())?;
-    let service = Attr::text("service.name", "shop");
-    let resource = Resource::new(rt.alloc(), &[service])?;
-    let mut runs = Runs::new();
-    let opened = opened(&rt, rt.alloc(), catalogue, config, &mut runs)?;
-    let (provider, recorders, readers) = opened;
-    let lines = TextExporter::of(OtlpLines::new(resource), StdSink::new(file));
+    let (provider, recorders, readers) = opened(&rt, catalogue, config)?;
+    let lines = lines_to(rt.alloc(), added_to().open(&rt, file.as_str())?)?;
     // What takes these lines stamps each one.
     let own = JsonLines::new(StdSink::new(rt.stdout()), Times::LeftOut);
     let (workers, failed) = serve(&rt, &provider, recorders, readers, lines, own)?;
@@ -131,16 +121,49 @@ fn main(rt: HostRuntime) -> Result<()> {
     Ok(())
 }
 
+// An exporter that adds lines to a file.
+fn lines_to(alloc: Global, file: File) -> Result<TextExporter<StdSink<File>, OtlpLines>> {
+    let resource = Resource::new(alloc, &[Attr::text("service.name", "shop")])?;
+    Ok(TextExporter::of(OtlpLines::new(resource), StdSink::new(file)))
+}
+
+// How a file is opened to which lines are added.
+fn added_to() -> OpenOptions {
+    let mut options = File::options();
+    options.append(true).create(true);
+    options
+}
+
+// Reads a catalogue and a config, and opens them.
+fn opened<R: Files + Wait + Clock + AllocGlobal>(
+    rt: &R,
+    catalogue: &str,
+    config: &str,
+) -> Result<Opened> {
+    let (first, second) = (
+        fs::read_to_string(rt, catalogue)?,
+        fs::read_to_string(rt, config)?,
+    );
+    let catalogue = NamedText {
+        name: catalogue,
+        text: first.as_str(),
+    };
+    let config = NamedText {
+        name: config,
+        text: second.as_str(),
+    };
+    opened_texts(rt, rt.alloc(), catalogue, config)
+}
+
 // Opens a catalogue and a config, or tells what is wrong with one of them, with its line and column.
-fn opened<R: Wait + Clock>(
+fn opened_texts<R: Wait + Clock>(
     rt: &R,
     alloc: Global,
     catalogue: NamedText<'_>,
     config: NamedText<'_>,
-    runs: &mut Runs,
-) -> Result<(MeterProvider, Vec<Recorder>, Vec<Collector>)> {
-    let (first, second) = (catalogue.text, config.text);
-    match open_with_lanes(rt, alloc, first, second, LANES, now(rt)?, runs) {
+) -> Result<Opened> {
+    let (first, second, mut runs) = (catalogue.text, config.text, Runs::new());
+    match open_with_lanes(rt, alloc, first, second, LANES, now(rt)?, &mut runs) {
         Ok(opened) => Ok(opened),
         Err(SetupFault::Catalogue(fault)) => {
             bail!("{}", diagnose_catalogue(alloc, catalogue, fault)?)
@@ -157,27 +180,44 @@ fn settle<R: Wait + Print>(
     provider: MeterProvider,
     workers: Vec<Worker>,
 ) -> Result<()> {
-    let (served, refused) = counted(alloc, &workers)?;
+    let counts = counted(alloc, &workers)?;
+    let seats = seats_of(alloc, workers)?;
+    let ended = provider.finish_keeping(rt, alloc, seats);
+    let ended = ended.map_err(ServiceFault::from)?;
+    let same = tell_totals(rt, &ended.plan, &ended.totals, counts)?;
+    ensure!(same, "the totals are not what the workers counted");
+    Ok(())
+}
+
+// The seats of the recorders.
+fn seats_of(alloc: Global, workers: Vec<Worker>) -> Result<Vec<Recorder>> {
     let mut seats = Vec::with_capacity(alloc, workers.len())?;
     for (seat, _) in workers {
         seats.push(seat.into_seat())?;
     }
-    let ended = provider.finish_keeping(rt, alloc, seats);
-    let ended = ended.map_err(ServiceFault::from)?;
-    let (instruments, mut same) = (ended.plan.catalogue().instruments(), true);
-    let totals = ended.totals.instruments.iter().zip(refused);
-    for (instrument, (total, refused)) in instruments.iter().zip(totals) {
+    Ok(seats)
+}
+
+// Tells what each instrument came to, and how many requests were served. Whether each is what the workers counted.
+fn tell_totals<R: Print>(
+    rt: &R,
+    plan: &Plan,
+    totals: &Totals,
+    (served, refused): Counts,
+) -> Result<bool> {
+    let mut same = true;
+    let totals = totals.instruments.iter().zip(refused);
+    for (instrument, (total, refused)) in plan.catalogue().instruments().iter().zip(totals) {
         let (name, count, sum) = (instrument.name.get().as_str(), total.count, total.sum);
         println!(rt; "{name}: {count} recordings, sum {sum}, {refused} refused")?;
         same = same && count.saturating_add(refused) == served;
     }
     println!(rt; "requests: {served}")?;
-    ensure!(same, "the totals are not what the workers counted");
-    Ok(())
+    Ok(same)
 }
 
-// How many requests were served, and how many recordings of each instrument were refused, for whatever reason.
-fn counted(alloc: Global, workers: &[Worker]) -> Result<(u64, [u64; 7])> {
+// What all workers counted, with what was refused for whatever reason.
+fn counted(alloc: Global, workers: &[Worker]) -> Result<Counts> {
     let (mut served, mut refused) = (0u64, [0u64; 7]);
     for (seat, own) in workers {
         for refusal in seat.refusals(alloc)? {
@@ -188,13 +228,6 @@ fn counted(alloc: Global, workers: &[Worker]) -> Result<(u64, [u64; 7])> {
         served = served.saturating_add(*own);
     }
     Ok((served, refused))
-}
-
-// How a file is opened to which lines are added.
-fn added_to() -> OpenOptions {
-    let mut options = File::options();
-    options.append(true).create(true);
-    options
 }
 
 // Serves until the workers have ended. They come back, and how many exports of each reader failed.
@@ -211,11 +244,7 @@ fn serve<R: Threads + Wait + Clock + Sync + AllocGlobal>(
     let new = take_reader(provider.plan(), &mut readers, "new").context("no reader \"new\"")?;
     // No boundary may leave as another one, since the protocol has doubles for them.
     expose_to_otlp(provider.plan(), all.number())?;
-    let mut workers = Vec::new(rt.alloc());
-    for seat in recorders {
-        let seat = Counted::new(rt.alloc(), provider.plan(), seat);
-        workers.push((seat.map_err(|(_, refused)| refused)?, 0))?;
-    }
+    let mut workers = workers_of(rt.alloc(), provider.plan(), recorders)?;
     let work = |_, worker: &mut Worker| shop.serve(rt, provider, worker);
     let readers = || {
         join(
@@ -230,6 +259,16 @@ fn serve<R: Threads + Wait + Clock + Sync + AllocGlobal>(
         workers
     });
     Ok((workers, failed))
+}
+
+// A worker for each recorder.
+fn workers_of(alloc: Global, plan: &Plan, recorders: Vec<Recorder>) -> Result<Vec<Worker>> {
+    let mut workers = Vec::new(alloc);
+    for seat in recorders {
+        let seat = Counted::new(alloc, plan, seat);
+        workers.push((seat.map_err(|(_, refused)| refused)?, 0))?;
+    }
+    Ok(workers)
 }
 
 // Exports every so many milliseconds, and a last time when the workers have ended. Tells what failed.

@@ -76,14 +76,14 @@ IsFirstFault (Unsafe fault) catalogue config = IsUnsafeSetup catalogue config fa
 IsFirstFault Memory catalogue config = Unit {0}
 IsFirstFault _ catalogue config = ⊥
 
--- a catalogue, or its first fault, unless memory was refused
+-- a catalogue, or its first fault, unless memory ran out
 abbrev pub ReadsCatalogue : Result Contents SetupFault → Result Contents CatalogueFault → Type 0
 ReadsCatalogue (Ok contents) read = read ≡ Ok contents
 ReadsCatalogue (Err (Catalogue fault)) read = read ≡ Err fault
 ReadsCatalogue (Err Memory) read = Unit {0}
 ReadsCatalogue (Err _) read = ⊥
 
--- a config, or its first fault, unless memory was refused
+-- a config, or its first fault, unless memory ran out
 abbrev pub ReadsConfig : Result Setup SetupFault → Result Setup ViewFault → Type 0
 ReadsConfig (Ok setup) read = read ≡ Ok setup
 ReadsConfig (Err (Config fault)) read = read ≡ Err fault
@@ -98,14 +98,14 @@ pub record Certifies (contents : Contents) (setup : Setup) (certificate : Certif
   pub valid : IsValid contents setup certificate
   pub made : IsMade contents setup certificate
 
--- a certificate, or the first part of safety that fails, unless memory was refused
+-- a certificate, or the first part of safety that fails, unless memory ran out
 abbrev pub Makes : Result Certificate SetupFault → Contents → Setup → Type 0
 Makes (Ok certificate) contents setup = Certifies contents setup certificate
 Makes (Err (Unsafe fault)) contents setup = IsUnsafe contents setup fault
 Makes (Err Memory) contents setup = Unit {0}
 Makes (Err _) contents setup = ⊥
 
--- the plan of a certificate, unless memory was refused
+-- the plan of a certificate, unless memory ran out
 abbrev pub Plans : Result PlanValue SetupFault → Contents → Setup → Certificate → Type 0
 Plans (Ok plan) contents setup certificate =
     plan ≡ plan_of true (by_product_of certificate) contents setup
@@ -164,15 +164,15 @@ IsFirstClaimFault (Check fault) catalogue config certificate =
 IsFirstClaimFault Memory catalogue config certificate = Unit {0}
 IsFirstClaimFault _ catalogue config certificate = ⊥
 
--- a certificate, or its first fault, unless memory was refused
+-- a certificate, or its first fault, unless memory ran out
 abbrev pub ReadsCertificate : Result Certificate SetupFault → Result Certificate CertFault → Type 0
 ReadsCertificate (Ok certificate) read = read ≡ Ok certificate
 ReadsCertificate (Err (BadCertificate fault)) read = read ≡ Err fault
 ReadsCertificate (Err Memory) read = Unit {0}
 ReadsCertificate (Err _) read = ⊥
 
--- the plan that a certificate shows to be safe, or the first fault that its check
--- finds, unless memory was refused
+-- the plan that a certificate shows to be safe, or the first fault that its check finds, unless
+-- memory ran out
 abbrev pub Vouches : Result PlanValue SetupFault → Contents → Setup → Certificate → Type 0
 Vouches (Ok plan) contents setup certificate =
     IsValid contents setup certificate

@@ -9,7 +9,7 @@ use thiserror::Error;
 
 /// Why a catalogue and a config come to no certified plan: the first fault of the catalogue, then that of the config;
 /// then the first part of safety that fails, or, where somebody else has made the certificate, its first fault and then
-/// the first that its check finds; or want of memory.
+/// the first that its check finds; or out of memory.
 #[derive(Clone, Copy, Debug, PartialEq, Eq, Drop, Error)]
 pub enum SetupFault {
     /// The catalogue is none.
@@ -28,7 +28,7 @@ pub enum SetupFault {
     /// counted.
     #[error("check {0}")]
     Check(ClaimFault),
-    /// Memory was refused.
+    /// Out of memory.
     #[error("memory")]
     Memory,
 }

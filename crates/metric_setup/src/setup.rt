@@ -37,7 +37,7 @@ pub fn certified_plan(
     checked_plan(alloc, catalogue, config, &certificate)
 }
 
-// The plan that a valid certificate shows to be safe. Only want of memory refuses it.
+// The plan that a valid certificate shows to be safe. It is refused only when out of memory.
 fn checked_plan(
     alloc: Global,
     catalogue: Catalogue,

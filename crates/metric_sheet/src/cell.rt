@@ -15,7 +15,7 @@ pub enum Cell {
 }
 
 impl Cell {
-    /// A cell of a text. Fails only where memory is refused.
+    /// A cell of a text. Fails only when out of memory.
     pub fn text(alloc: Global, text: &str) -> Result<Cell, AllocError> {
         Ok(Cell::Text(String::from_str(alloc, text)?))
     }
@@ -25,7 +25,7 @@ impl Cell {
         matches!(self, Cell::Number(_))
     }
 
-    /// The cell as people see it, in one line. Fails only where memory is refused.
+    /// The cell as people see it, in one line. Fails only when out of memory.
     pub fn shown(&self, alloc: Global) -> Result<String, AllocError> {
         match self {
             Cell::Text(text) => visible(alloc, text.as_str()),

@@ -11,7 +11,7 @@ pub enum SheetFault {
     /// The sink failed.
     #[error("the device failed")]
     Write,
-    /// Memory was refused.
+    /// Out of memory.
     #[error("memory was refused")]
     Memory,
 }

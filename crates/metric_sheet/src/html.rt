@@ -8,7 +8,7 @@ use metric_text::{push_byte, push_number, push_text};
 use std::alloc::{AllocError, Global};
 
 /// Puts a text last as HTML shows it: what would be read as markup stands as a reference, and what moves a terminal's
-/// cursor as `?`. Fails only where memory is refused.
+/// cursor as `?`. Fails only when out of memory.
 #[tactic(auto, unfolding(crate::specs::Html::html_text), using(metric_text::specs::ListLaws::steps))]
 pub fn push_html_text(page: &mut Vec<u8>, text: &str) -> Result<(), AllocError>
     ensures { OnOk result (page.new.items ≡ page.old.items ++ html_text text.now) }
@@ -35,7 +35,7 @@ fn push_html_byte(page: &mut Vec<u8>, byte: u8) -> Result<(), AllocError>
 
 /// Puts a table last: a row of titles, and one for each row of the sheet. Where `shares` has a number for a row, a bar
 /// shows it behind the row as so many hundredths of what is allowed; without any there is no such column. Fails only
-/// where memory is refused.
+/// when out of memory.
 pub fn push_html_table<S: Sheet>(
     alloc: Global,
     page: &mut Vec<u8>,

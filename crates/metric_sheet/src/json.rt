@@ -66,7 +66,7 @@ fn push_json_texts(line: &mut String, texts: &[String]) -> Result<(), AllocError
     line.push(']')
 }
 
-/// Puts a text last, as JSON spells it. Fails only where memory is refused.
+/// Puts a text last, as JSON spells it. Fails only when out of memory.
 pub fn push_json_text(line: &mut String, text: &str) -> Result<(), AllocError> {
     line.push('"')?;
     for letter in text.chars() {

@@ -6,6 +6,7 @@ mod columns;
 mod fault;
 mod html;
 mod json;
+mod row;
 mod sheet;
 mod table;
 
@@ -13,5 +14,6 @@ pub use cell::Cell;
 pub use fault::SheetFault;
 pub use html::{push_html_table, push_html_text};
 pub use json::{push_json_text, write_json};
+pub use row::Row;
 pub use sheet::Sheet;
 pub use table::write_table;

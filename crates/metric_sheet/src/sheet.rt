@@ -10,6 +10,6 @@ pub trait Sheet {
     /// How many rows there are.
     fn rows(&self) -> usize;
 
-    /// The cells of the row of a number, in the order of the titles. Fails only where memory is refused.
+    /// The cells of the row of a number, in the order of the titles. Fails only when out of memory.
     fn row(&self, alloc: Global, number: usize) -> Result<Vec<Cell>, AllocError>;
 }

@@ -81,7 +81,8 @@ abbrev pub seats_meant : List Recorded → List Data
 seats_meant recorders = flat_map (λ r. seats_of r.amounts r.name r.count) recorders
 
 -- # meaning of a short catalogue (profile)
--- The table of format 2: its meters with their keys in place of ids, and its recorders, each with its budgets by number.
+-- The table of format 2: its meters with their keys in place of ids, and its recorders, each with
+-- its budgets by number.
 abbrev pub meant : List ShortKey → List Data → List Recorded → Members
 meant keys meters recorders =
     with_member (codes "recorder") (array_of (seats_meant recorders))

@@ -129,7 +129,7 @@ pub enum ShortFault {
     /// The field of a table has a defect, and is the first that has one.
     #[error("{0:?} at {1}")]
     At(ShortDefect, ShortSpot),
-    /// Memory was refused.
+    /// Out of memory.
     #[error("Memory")]
     Memory,
 }

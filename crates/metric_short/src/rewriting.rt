@@ -17,7 +17,7 @@ pub(crate) trait Rewrite {
 
     ghost meant: { Self → Data → Data };
 
-    // The value that a value comes to. Fails only where memory is refused.
+    // The value that a value comes to. Fails only when out of memory.
     fn rewrite(&self, alloc: Global, value: &Value) -> Result<Value, AllocError>
         ensures { IfOk result (λ v. view v ≡ meant self.now (view value.now)) };
 }

@@ -2,7 +2,7 @@
 use Rattle.std.proofs.Common.{◌≡◌, ℕ, ◌+◌, ◌<◌, ◌≤◌, ℤ, true, false, List, [], ◌∷◌, ◌++◌, Result, Ok, Err, length, sym, ap, subst, ◌∙◌, arith}
 use Rattle.std.specs.Prelude.{OnOk, max, slice_index, slice_index_or, if◌then◌else◌}
 use Rattle.std.proofs.lemmas.List.{length_push}
-use Rattle.metric_book.specs.Journals.{Standing}
+use Rattle.metric_history.specs.Journals.{Standing}
 use Rattle.metric_contents.specs.declared.refusal.Refusal.{Refusal}
 use Rattle.metric_contents.specs.declared.refusal.Refusal.TheVariants as refusals
 use Rattle.metric_core.specs.BudgetLaws.{has_room, kept_journal}

@@ -1,6 +1,6 @@
 -- What the calls of a slot answer.
 use Rattle.std.specs.Prelude.{◌≡◌, ◌≤◌, ℕ, List, Result, Err, if◌then◌else◌, length}
-use Rattle.metric_book.specs.Journals.{Standing}
+use Rattle.metric_history.specs.Journals.{Standing}
 use Rattle.metric_contents.specs.declared.refusal.Refusal.{Refusal}
 use Rattle.metric_contents.specs.declared.refusal.Refusal.TheVariants.{Stranger, SumRange, Memory}
 use Rattle.metric_core.specs.Cells.{CellValue}

@@ -13,11 +13,10 @@ ghost use Rattle.metric_slot.specs.Tellings.{HasRoom, told_more};
 use crate::safety::certified_facts_are_safe;
 use crate::seen::Seen;
 use crate::told::Told;
-use metric_book::Book;
 use metric_contents::{Refusal, SetKey};
 use metric_core::Cell;
 use metric_facts::{Facts, same_facts};
-use metric_history::Batch;
+use metric_history::{Batch, Book};
 use metric_plan::Plan;
 use metric_safety::laws::journals_are_bounded;
 use std::alloc::{AllocError, Global};
@@ -46,8 +45,8 @@ impl<B: Book> Model for Slot<B> {
 }
 
 impl<B: Book> Slot<B> {
-    /// The instrument of this number without recordings, since a start in nanoseconds. The start is also the seed
-    /// of a book that hashes. Fails only where memory is refused.
+    /// The instrument of this number without recordings, since a start in nanoseconds. The start is also the seed of a
+    /// book that hashes. Fails only when out of memory.
     pub fn new(
         alloc: Global,
         plan: &Plan,
@@ -204,7 +203,7 @@ impl<B: Book> Slot<B> {
     }
 
     /// Ends the reader's window with a batch of this time in nanoseconds: all recordings so far were reported to it.
-    /// Takes no memory.
+    /// Allocates no memory.
     pub fn advance(&mut self, reader: u32, time: u64)
         requires { reader < length self.old.facts.delta }
         ensures new { self.new ≡ with_batch self.old reader time self.new.book }
@@ -225,7 +224,7 @@ impl<B: Book> Slot<B> {
 
     /// Grants a recorder so many recordings beside its budget, of what is left of the instrument's spare budget.
     /// `Stranger` comes exactly where the cell's facts are not these. Else `Closed` comes exactly where the instrument
-    /// is closed, else `NoSpare` exactly where more is asked for than is left. Takes no memory.
+    /// is closed, else `NoSpare` exactly where more is asked for than is left. Allocates no memory.
     pub fn grant(&mut self, facts: &Facts, recorder: u32, amount: u64) -> Result<(), Refusal>
         requires { recorder < length facts.now.budgets }
         ensures answer { AnswersGranter self.old facts.now amount result }

@@ -11,6 +11,6 @@ pub struct FieldFaults<F> {
     pub unknown: F,
     /// A list or a text is longer than its limit.
     pub too_many: F,
-    /// Memory was refused.
+    /// Out of memory.
     pub memory: F,
 }

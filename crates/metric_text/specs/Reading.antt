@@ -18,7 +18,7 @@ infixl 10 ◌>>=◌
 abbrev pub ◌>>=◌ : {A B : Type 0} → Option A → (A → Option B) → Option B
 o >>= f = option_and_then f o
 
--- What a function returned is what reading gives, unless memory was refused.
+-- What a function returned is what reading gives, unless memory ran out.
 abbrev pub Tells : {X Y : Type 0} → (X → Y) → Result X SpellingFault → Option Y → Type 0
 Tells view (Ok x) read = read ≡ Some (view x)
 Tells view (Err Bad) read = read ≡ None

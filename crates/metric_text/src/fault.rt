@@ -10,7 +10,7 @@ pub enum SpellingFault {
     /// The bytes are outside the grammar.
     #[error("outside the grammar")]
     Bad,
-    /// Memory was refused.
+    /// Out of memory.
     #[error("memory was refused")]
     Memory,
 }

@@ -5,9 +5,10 @@
 
 use anyhow::{Context, Result, bail};
 use metric_sdk::{
-    Attr, Broken, Dialect, MeterProvider, MetricExporter, PageExporter, Pages, Recorder, Resource,
-    Runs, counter, export_each, expose, gauge, histogram, open,
+    Attr, Batch, Broken, Dialect, MeterProvider, MetricExporter, PageExporter, Pages, Plan,
+    Recorder, Resource, Runs, counter, export_each, expose, gauge, histogram, open,
 };
+use std::alloc::Global;
 use std::env;
 use std::fs::{self, File};
 use std::io::{self, Write};
@@ -80,35 +81,31 @@ impl Pages for TextFile<'_> {
 }
 
 fn main(rt: HostRuntime) -> Result<()> {
-    let (alloc, mut runs) = (rt.alloc(), Runs::new());
-    let words: Vec<String> = env::args(&rt)?.collect(alloc)?;
+    let words: Vec<String> = env::args(&rt)?.collect(rt.alloc())?;
     let [_, path] = words.as_slice() else {
         bail!("usage: metric_textfile FILE.prom");
     };
-    let (provider, mut recorders, mut readers) = open(&rt, alloc, CATALOGUE, CONFIG, 0, &mut runs)?;
-    let plan = provider.plan();
-    let reader = readers.first_mut().context("no reader")?;
-    // Before anything is recorded: a server would hold each sample.
-    expose(alloc, plan, reader.number())?;
     let file = TextFile {
         rt: &rt,
         path: path.as_str(),
-        beside: format!(in alloc; "{path}.new")?,
+        beside: format!(in rt.alloc(); "{path}.new")?,
     };
-    let resource = Resource::new(alloc, &[Attr::text("service.name", "backup")])?;
-    let mut exporter = PageExporter::new(alloc, plan, Dialect::Text, &resource, file)?;
-    back_up(
-        &rt,
-        &provider,
-        recorders.first_mut().context("no recorder")?,
-    )?;
-    let batches = reader.collect_all(&rt, alloc, &provider, 1_000)?;
-    if let Some(fault) = export_each(&mut exporter, alloc, plan, &batches).refused {
-        return Err(fault.into());
-    }
-    exporter.shutdown()?;
+    run(&rt, rt.alloc(), file)?;
     print!(rt; "{}", fs::read_to_string(&rt, path.as_str())?)?;
     Ok(())
+}
+
+// Does the night's work, and writes what it recorded.
+fn run<R: Wait>(rt: &R, alloc: Global, file: TextFile<'_>) -> Result<()> {
+    let mut runs = Runs::new();
+    let (provider, mut recorders, mut readers) = open(rt, alloc, CATALOGUE, CONFIG, 0, &mut runs)?;
+    let recorder = recorders.first_mut().context("no recorder")?;
+    let reader = readers.first_mut().context("no reader")?;
+    // Before anything is recorded: a server would hold each sample.
+    expose(alloc, provider.plan(), reader.number())?;
+    back_up(rt, &provider, recorder)?;
+    let batches = reader.collect_all(rt, alloc, &provider, 1_000)?;
+    write_page(alloc, provider.plan(), &batches, file)
 }
 
 // Counts the files of the night.
@@ -125,5 +122,16 @@ fn back_up<R: Wait>(rt: &R, provider: &MeterProvider, recorder: &mut Recorder) -
         }
     }
     ended.record(rt, provider, recorder, &[], 1_764_288_000)?;
+    Ok(())
+}
+
+// Writes batches as the page that a file holds.
+fn write_page(alloc: Global, plan: &Plan, batches: &[Batch], file: TextFile<'_>) -> Result<()> {
+    let resource = Resource::new(alloc, &[Attr::text("service.name", "backup")])?;
+    let mut exporter = PageExporter::new(alloc, plan, Dialect::Text, &resource, file)?;
+    if let Some(fault) = export_each(&mut exporter, alloc, plan, batches).refused {
+        return Err(fault.into());
+    }
+    exporter.shutdown()?;
     Ok(())
 }

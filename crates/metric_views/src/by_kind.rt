@@ -19,8 +19,8 @@ use toml::{Table, Value};
 // The cardinality limit where the config gives none (Metrics SDK, cardinality limits).
 const DEFAULT_LIMIT: u32 = 2000;
 
-// What a reader can choose for a kind of instrument. It is no type that crates above see: they would all carry what TOML's
-// values are.
+// What a reader can choose for a kind of instrument. It is no type that crates above see: they would all carry what
+// TOML's values are.
 pub(crate) trait Choice {
     // What is chosen.
     type Chosen: Copy + Drop;

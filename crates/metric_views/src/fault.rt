@@ -142,7 +142,7 @@ pub enum ViewFault {
     /// The field of a table has a defect, and is the first that has one.
     #[error("{0} at {1}")]
     At(ViewDefect, ConfigSpot),
-    /// Memory was refused.
+    /// Out of memory.
     #[error("11 Memory")]
     Memory,
 }

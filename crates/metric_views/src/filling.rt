@@ -13,8 +13,8 @@ use metric_catalogue::Catalogue;
 use metric_contents::Kind;
 use std::alloc::{AllocError, Global};
 
-/// What the view of this number, or the default without one, makes of an instrument for a reader (Metrics
-/// SDK, stream configuration). Fails only where memory is refused.
+/// What the view of this number, or the default without one, makes of an instrument for a reader (Metrics SDK, stream
+/// configuration). Fails only when out of memory.
 ///
 /// The numbers are those of a reader, a view and an instrument that are there.
 pub fn fill(
@@ -42,8 +42,8 @@ pub fn fill(
 }
 
 impl Template {
-    /// What the view, or the default, makes of the instrument for the reader of this number. Fails only
-    /// where memory is refused.
+    /// What the view, or the default, makes of the instrument for the reader of this number. Fails only when out of
+    /// memory.
     #[tactic(auto, unfolding(crate::specs::Streams::fill_by))]
     pub fn fill(&self, alloc: Global, number: u32, reader: &Reader) -> Result<Fill, AllocError>
         ensures { IfOk result (λ f. f ≡ fill_by number reader.now self.now) }

@@ -20,7 +20,8 @@ use metric_table::{integers_of, member, short_text, text_of, texts_of};
 use std::alloc::Global;
 use toml::{Table, Value};
 
-// A kind of field that a view can have. It is no type that crates above see: they would all carry what TOML's values are.
+// A kind of field that a view can have. It is no type that crates above see: they would all carry what TOML's values
+// are.
 pub(crate) trait Field {
     // What such a field is read as.
     type Read: Drop;

@@ -10,9 +10,8 @@ use metric_glob::Pattern;
 use metric_names::Name;
 
 impl View {
-    /// Whether the view selects an instrument of a meter: every criterion that it gives holds
-    /// (Metrics SDK, instrument selection criteria). Unit and meter fields are compared by bytes. Takes
-    /// no memory.
+    /// Whether the view selects an instrument of a meter: every criterion that it gives holds (Metrics SDK, instrument
+    /// selection criteria). Unit and meter fields are compared by bytes. Allocates no memory.
     #[tactic(auto, using(crate::proofs::Selecting::selecting))]
     pub fn selects(&self, meter: &Meter, instrument: &Instrument) -> bool
         ensures test { IsTrue result ↔ Selects self.now.criteria meter.now instrument.now }

@@ -37,8 +37,7 @@ pub struct Template {
 }
 
 impl Template {
-    /// The template of the default streams of the instrument of this number. Fails only where memory is
-    /// refused.
+    /// The template of the default streams of the instrument of this number. Fails only when out of memory.
     pub fn of_default(
         alloc: Global,
         number: u32,
@@ -49,8 +48,8 @@ impl Template {
         template_of(alloc, number, instrument, None, &no_settings())
     }
 
-    /// The template of the streams that the view of this number makes of the instrument of this number.
-    /// Fails only where memory is refused.
+    /// The template of the streams that the view of this number makes of the instrument of this number. Fails only when
+    /// out of memory.
     pub fn of_view(
         alloc: Global,
         number: u32,

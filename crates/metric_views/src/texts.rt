@@ -13,7 +13,7 @@ pub(crate) struct Texts {
     pub(crate) unit: Shared<Unit>,
 }
 
-// Copies of these texts. Fails only where memory is refused.
+// Copies of these texts. Fails only when out of memory.
 pub(crate) fn copied_texts(
     alloc: Global,
     name: &Shared<Name>,

@@ -1,4 +1,4 @@
-//! Fields: a mark and a value. Each call fails only where memory is refused, and may then have written a part.
+//! Fields: a mark and a value. Each call fails only when out of memory, and may then have written a part.
 ghost use Rattle.std.specs.Prelude.{◌≡◌, ◌<◌, ◌++◌, ◌∷◌, [], OnOk, IfOk, length};
 ghost use Rattle.std.specs.List.{flat_map};
 ghost use Rattle.metric_wire.specs.Closing.{closed};
@@ -74,8 +74,8 @@ pub fn begin_block(out: &mut Vec<u8>, field: u32) -> Result<usize, AllocError>
     Ok(place)
 }
 
-/// Ends a block: writes at its place how many bytes stand after it. Those of more than 127 bytes move, so a long block is
-/// better written apart and pushed.
+/// Ends a block: writes at its place how many bytes stand after it. Those of more than 127 bytes move, so a long block
+/// is better written apart and pushed.
 #[tactic(auto, unfolding(crate::specs::Closing::closed), using(crate::proofs::Closed::short_closed))]
 pub fn end_block(out: &mut Vec<u8>, place: usize) -> Result<(), AllocError>
     requires { place < length out.old.items }

@@ -5,7 +5,7 @@ ghost use Rattle.metric_wire.specs.Wire.{varint};
 use std::alloc::AllocError;
 
 /// Writes a number as a varint: in base 128, the least digit first, with 128 added to each digit but the last. Fails
-/// only where memory is refused, and may then have written some of the digits.
+/// only when out of memory, and may then have written some of the digits.
 pub fn push_varint(out: &mut Vec<u8>, number: u64) -> Result<(), AllocError>
     ensures { OnOk result (out.new.items ≡ out.old.items ++ varint number) }
 {

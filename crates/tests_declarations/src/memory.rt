@@ -1,4 +1,4 @@
-//! Want of memory, as each kind of fault prints it.
+//! Out of memory, as each kind of fault prints it.
 use crate::asserted::{OrFail, assert_equal};
 use metric_catalogue::CatalogueFault;
 use metric_glob::PatternFault;

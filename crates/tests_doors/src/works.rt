@@ -227,41 +227,65 @@ fn counted<R: Abort>(rt: &R, alloc: Global, plan: &Plan, seat: Recorder) -> Coun
     }
 }
 
+// An up-down counter with its attributes bound.
+fn bound_of<R: Abort>(rt: &R, plan: &Plan, meter: &str) -> BoundUpDownCounter {
+    let active = up_down_counter(plan, meter, "active", &[]).or_fail(rt);
+    active.bind(plan, &[]).or_fail(rt)
+}
+
+// Counts work that fails: it adds to orders of a country that is not declared.
+fn count_failing<R: Abort + Wait>(rt: &R, provider: &MeterProvider, seat: &mut Counted) {
+    let orders = counter(provider.plan(), "shop", "orders", &["country"]).or_fail(rt);
+    let bound = bound_of(rt, provider.plan(), "shop");
+    let mut at = seat.at(rt, provider);
+    let answers = at.during(&bound, |seat| {
+        let mut at = seat.at(rt, provider);
+        at.add(&orders, &[Attr::text("country", "uk")], 1)?;
+        at.add(&orders, &[Attr::text("country", "de")], 1)
+    });
+    assert_equal(rt, answers, (Err(Refusal::UnknownValue), Ok(())));
+}
+
+// Adds to orders a country and an amount that are not declared, each replaced by one that is.
+fn add_replaced<R: Abort + Wait>(rt: &R, provider: &MeterProvider, seat: &mut Counted) {
+    let orders = counter(provider.plan(), "shop", "orders", &["country"]).or_fail(rt);
+    let mut replaced = Replaced::none();
+    let mut at = seat.at(rt, provider);
+    let uk = Attr::text("country", "uk");
+    let known = at
+        .known_or(&orders, &mut replaced, uk, ValueRef::Text("fr"))
+        .or_fail(rt);
+    let amount = at.clamped(&orders, &mut replaced, 101).or_fail(rt);
+    let added = at.add(&orders, &[known], amount);
+    assert_equal(rt, (added, replaced.values), (Ok(()), 1));
+}
+
+// Counts work on an instrument of another plan: it is done, and not counted.
+fn count_strange<R: Abort + Wait>(
+    rt: &R,
+    alloc: Global,
+    provider: &MeterProvider,
+    seat: &mut Counted,
+) {
+    let other = strange(rt, alloc);
+    let stranger = bound_of(rt, &other, "other");
+    let answers = seat.at(rt, provider).during(&stranger, |_| 7);
+    assert_equal(rt, answers, (7, Err(Refusal::Stranger)));
+}
+
 #[test]
 fn a_count_comes_back_where_work_fails(rt: HostRuntime) {
     let alloc = rt.alloc();
     let (provider, mut seats) = open_seats(&rt, alloc);
-    let plan = provider.plan();
-    let orders = counter(plan, "shop", "orders", &["country"]).or_fail(&rt);
-    let active = up_down_counter(plan, "shop", "active", &[]).or_fail(&rt);
-    let bound = active.bind(plan, &[]).or_fail(&rt);
-    let mut seat = counted(&rt, alloc, plan, take_seat(&rt, &mut seats, 0));
-    let mut at = seat.at(&rt, &provider);
-    let mut replaced = Replaced::none();
-    let (failed, counted) = at.during(&bound, |seat| {
-        let mut at = seat.at(&rt, &provider);
-        at.add(&orders, &[Attr::text("country", "uk")], 1)?;
-        at.add(&orders, &[Attr::text("country", "de")], 1)
-    });
-    assert_equal(&rt, [failed, counted], [Err(Refusal::UnknownValue), Ok(())]);
-    let uk = Attr::text("country", "uk");
-    let known = at
-        .known_or(&orders, &mut replaced, uk, ValueRef::Text("fr"))
-        .or_fail(&rt);
-    let amount = at.clamped(&orders, &mut replaced, 101).or_fail(&rt);
-    let added = at.add(&orders, &[known], amount);
-    let other = strange(&rt, alloc);
-    let stranger = up_down_counter(&other, "other", "active", &[]).or_fail(&rt);
-    let stranger = stranger.bind(&other, &[]).or_fail(&rt);
-    let (done, counted) = at.during(&stranger, |_| 7);
-    assert_equal(
-        &rt,
-        (done, [added, counted]),
-        (7, [Ok(()), Err(Refusal::Stranger)]),
-    );
-    let refused = at.seat().refused(orders.number(), Refusal::UnknownValue);
-    let made = made(&rt, at.seat().seat(), active.number(), -1);
-    assert_equal(&rt, (refused, made, replaced.values), (1, (2, 0), 1));
+    let seat = take_seat(&rt, &mut seats, 0);
+    let mut seat = counted(&rt, alloc, provider.plan(), seat);
+    count_failing(&rt, &provider, &mut seat);
+    add_replaced(&rt, &provider, &mut seat);
+    count_strange(&rt, alloc, &provider, &mut seat);
+    // Of orders one was refused; active was counted up and down, once.
+    let refused = seat.refused(0, Refusal::UnknownValue);
+    let made = made(&rt, seat.seat(), 1, -1);
+    assert_equal(&rt, (refused, made), (1, (2, 0)));
 }
 
 // The timer of a histogram of a plan.

@@ -1,4 +1,4 @@
--- A first recording fits each stream, so that nothing but memory can be refused for it.
+-- A first recording fits each stream, so that it can be refused only when out of memory.
 use Rattle.std.proofs.Common.{◌≡◌, ◌∷◌, [], ◌≤ℤ◌, ◌<ℤ◌, ◌&&◌, ◌^◌, ◌-◌, ℕ, ℤ, pos, negsuc, Bool, true, false, List, refl, ap, ◌∙◌, arith}
 use lib.Signed.{mag}
 use Rattle.std.specs.Prelude.{◌<◌, if◌then◌else◌}

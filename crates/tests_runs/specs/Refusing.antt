@@ -1,4 +1,4 @@
--- What a book that refuses memory once keeps, and for which journals it stands.
+-- What a book that runs out of memory once keeps, and for which journals it stands.
 use Rattle.std.specs.Prelude.{◌≡◌, ℕ, Bool, true, List, []}
 use Rattle.metric_history.specs.declared.entry.Entry.{Entry}
 use Rattle.metric_facts.specs.declared.facts.Facts.{Facts}

@@ -3,7 +3,7 @@ use crate::asserted::{OrFail, assert_equal};
 use crate::dice::Dice;
 use crate::runs::told;
 use metric_audit::Audited;
-use metric_book::Book;
+use metric_history::Book;
 use metric_journal::JournalBook;
 use metric_marked::Marked;
 use std::alloc::Global;

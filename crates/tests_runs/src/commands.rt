@@ -11,10 +11,11 @@ use crate::inputs::{
     SHOP_OUTPUT, SHOP_RUN, SHOP_VIEWS,
 };
 use metric_audit::AuditFault;
-use metric_command::{Line, LineFault};
-use metric_commands::{KitFault, replay_encoded, run_line};
+use metric_command_lines::{Line, LineFault};
 use metric_export::Plain;
 use metric_io::{CutSink, CutSource};
+use metric_kit_commands::{KitFault, replay_encoded};
+use metric_kit_program::run_line;
 use metric_provider::FinishFault;
 use std::alloc::Global;
 use std::process::Abort;

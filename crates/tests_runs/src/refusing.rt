@@ -1,14 +1,13 @@
-//! Memory that is refused in the middle of a run.
+//! Memory that runs out in the middle of a run.
 //!
 //! No test can have one allocation of its process refused, so a book refuses in its place, as it would where a
 //! table can not grow.
 use crate::asserted::assert_equal;
 use crate::runs::told;
-use metric_book::{Book, Window};
 use metric_contents::Refusal;
-use metric_history::Entry;
+use metric_facts::Facts;
+use metric_history::{Book, Entry, Window};
 use metric_marked::Marked;
-use metric_plan::Plan;
 use std::alloc::{AllocError, Global};
 use std::cell::Cell;
 use std::marker::Model;
@@ -46,9 +45,9 @@ impl Book for Refusing {
 
     const KEEPS_ENTRIES: bool = false;
 
-    fn new(alloc: Global, plan: &Plan, instrument: u32, seed: u64) -> Result<Refusing, AllocError> {
+    fn new(alloc: Global, facts: &Facts, seed: u64) -> Result<Refusing, AllocError> {
         Ok(Refusing {
-            book: Marked::new(alloc, plan, instrument, seed)?,
+            book: Marked::new(alloc, facts, seed)?,
             is_new: true,
             refuses_recording: true,
             refuses_collection: Cell::new(true),

@@ -1,10 +1,9 @@
 //! Runs of an input's script on a core, and the text of the replies, which is what a replay writes.
 use crate::asserted::OrFail;
 use crate::plans::{dense_plan_of, plan_of};
-use metric_book::Book;
 use metric_contents::Refusal;
 use metric_core::Core;
-use metric_history::{Event, Reply};
+use metric_history::{Book, Event, Reply};
 use metric_lines::push_batch;
 use metric_parts::{Needs, Parts, parts_of};
 use metric_plan::Plan;

@@ -1,6 +1,6 @@
 //! What a clock's ticker waits for and reads, by a clock of the tests' own.
 use crate::asserted::assert_equal;
-use metric_export::{ClockTicker, StopCause, StopFlag, Tick, Ticker};
+use metric_periodic::{ClockTicker, StopCause, StopFlag, Tick, Ticker};
 use metric_sdk::now;
 use std::cell::Cell;
 use std::io;

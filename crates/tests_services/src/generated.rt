@@ -3,7 +3,7 @@ use crate::agreement::{script_of, write_core, write_seats};
 use crate::asserted::{OrFail, assert_equal};
 use crate::samples::BOTH;
 use metric_audit::Audited;
-use metric_book::Book;
+use metric_history::Book;
 use metric_journal::JournalBook;
 use metric_marked::Marked;
 use metric_script::ScriptEvents;

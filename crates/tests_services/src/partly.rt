@@ -4,7 +4,7 @@ use crate::asserted::{OrFail, assert_equal};
 use crate::samples::{BOTH, PAIR};
 use crate::seats::{BookSeats, seats_of};
 use metric_audit::Audited;
-use metric_book::Book;
+use metric_history::Book;
 use metric_marked::Marked;
 use metric_provider::{NoGate, Partly, Provider, Recorder};
 use std::alloc::Global;

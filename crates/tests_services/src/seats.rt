@@ -2,9 +2,8 @@
 use crate::asserted::OrFail;
 use crate::samples::{BOTH, HITS};
 use crate::texts::write_reply;
-use metric_book::Book;
 use metric_contents::{Attr, OwnedAttr, Refusal};
-use metric_history::{Event, Reply};
+use metric_history::{Book, Event, Reply};
 use metric_marked::Marked;
 use metric_provider::{Collector, NoGate, Provider, Recorder, start, start_with_lanes};
 use metric_sdk::certified_plan;

@@ -1,6 +1,6 @@
 //! When a clock stops.
 use crate::asserted::assert_equal;
-use metric_export::{ClockTicker, StopFlag, Tick, Ticker};
+use metric_periodic::{ClockTicker, StopFlag, Tick, Ticker};
 
 // How many of the next four ticks are stops.
 fn stops<R, T: Ticker<R>>(rt: &R, ticker: &mut T) -> u32 {

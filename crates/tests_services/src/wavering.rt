@@ -6,9 +6,9 @@ ghost use Rattle.metric_export.specs.declared.state.ExporterState.TheVariants.{S
 use crate::asserted::assert_equal;
 use crate::periods::TICKS;
 use crate::seats::hit_once;
-use metric_export::{ExportFault, ExporterState, ListTicker, MetricExporter, own_plan};
+use metric_export::{ExportFault, ExporterState, MetricExporter, own_plan};
 use metric_history::Batch;
-use metric_periodic::{Periodic, PeriodicEnd};
+use metric_periodic::{ListTicker, Periodic, PeriodicEnd};
 use metric_plan::Plan;
 use metric_provider::Collector;
 use metric_sdk::MeterProvider;

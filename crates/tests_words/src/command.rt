@@ -1,6 +1,6 @@
 //! Command lines: those that are taken, and the words that are refused.
 use crate::asserted::assert_equal;
-use metric_command::{Line, LineFault, command_of, lines_are_taken, others_are_refused};
+use metric_command_lines::{Line, LineFault, command_of, lines_are_taken, others_are_refused};
 
 const TRIAL: Result<Line, LineFault> = Ok(Line::Replay {
     trial: true,

@@ -1,6 +1,6 @@
 //! The printed texts of faults that no input brings about.
 use crate::asserted::{OrFail, assert_equal};
-use metric_command::LineFault;
+use metric_command_lines::LineFault;
 use metric_names::{NameFault, UnitFault};
 use metric_parts::InputFault;
 

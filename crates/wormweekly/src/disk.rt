@@ -1,12 +1,12 @@
 //! Files on a disk.
 use crate::progress::Progress;
 use metric_base::Text;
-use metric_console::{Folder, Unread, Unwritten};
+use metric_command_lines::is_standard;
 use metric_io::{ReadFault, StdSource, read_all};
-use metric_request::is_standard;
 use std::alloc::Global;
 use std::fs::{self, File};
 use std::io::{Error, ErrorKind, Read, Write};
+use wormweekly_commands::{Folder, Unread, Unwritten};
 
 // The file that standard input is, which says why it is not read.
 const STANDARD_INPUT: &str = "/dev/stdin";

@@ -6,9 +6,8 @@ mod pipe;
 mod progress;
 
 use disk::Disk;
-use metric_console::run_request;
+use metric_command_lines::{Request, RequestFault, request_of};
 use metric_io::StdSink;
-use metric_request::{LineFault, Request, request_of};
 use pipe::{Hushed, Watched};
 use progress::{Cleared, Counted, Progress};
 use std::alloc::{AllocError, Global};
@@ -16,6 +15,7 @@ use std::cell::Cell;
 use std::env;
 use std::io::{BufWriter, ErrorKind, Write};
 use std::process::ExitCode;
+use wormweekly_commands::run_request;
 
 // The exit status of a program that writes into a closed pipe and is ended by its signal.
 const CLOSED: u8 = 141;
@@ -28,21 +28,21 @@ fn main(rt: HostRuntime) -> ExitCode {
 }
 
 // What the words of the command line ask for.
-fn asked(rt: &HostRuntime) -> Result<Request, LineFault> {
+fn asked(rt: &HostRuntime) -> Result<Request, RequestFault> {
     let owned = words(rt)?;
     let words = borrowed(rt.alloc(), &owned)?;
     request_of(rt.alloc(), &words)
 }
 
 // The words of the command line, each of which has to be UTF-8, also the path of a file.
-fn words(rt: &HostRuntime) -> Result<Vec<String>, LineFault> {
+fn words(rt: &HostRuntime) -> Result<Vec<String>, RequestFault> {
     match env::args(rt) {
         Ok(words) => Ok(words.collect(rt.alloc())?),
         Err(error) => match error.kind() {
             ErrorKind::InvalidData => {
-                Err(LineFault::Usage(String::from_str(rt.alloc(), NOT_TEXT)?))
+                Err(RequestFault::Usage(String::from_str(rt.alloc(), NOT_TEXT)?))
             }
-            _ => Err(LineFault::Memory),
+            _ => Err(RequestFault::Memory),
         },
     }
 }
@@ -56,7 +56,7 @@ fn borrowed<'a>(alloc: Global, owned: &'a [String]) -> Result<Vec<&'a str>, Allo
 }
 
 // Runs a request, and gives the exit status.
-fn run(rt: &HostRuntime, request: Result<Request, LineFault>) -> u8 {
+fn run(rt: &HostRuntime, request: Result<Request, RequestFault>) -> u8 {
     let progress = Progress::new(rt, &request);
     let counted = Counted {
         writer: rt.stdout(),
@@ -68,7 +68,7 @@ fn run(rt: &HostRuntime, request: Result<Request, LineFault>) -> u8 {
     };
     let status = match BufWriter::new(rt.alloc(), counted) {
         Ok(output) => run_into(rt, request, &progress, output, told),
-        Err(_) => run_into(rt, Err(LineFault::Memory), &progress, rt.stdout(), told),
+        Err(_) => run_into(rt, Err(RequestFault::Memory), &progress, rt.stdout(), told),
     };
     progress.erase();
     status
@@ -77,7 +77,7 @@ fn run(rt: &HostRuntime, request: Result<Request, LineFault>) -> u8 {
 // Runs a request into a writer. The exit status; that of a closed pipe, where the writer is one.
 fn run_into<W: Write + Drop, E: Write + Drop>(
     rt: &HostRuntime,
-    request: Result<Request, LineFault>,
+    request: Result<Request, RequestFault>,
     progress: &Progress<'_>,
     output: W,
     told: E,
@@ -90,7 +90,7 @@ fn run_into<W: Write + Drop, E: Write + Drop>(
 // Runs a request into a writer, and tells another one why it stops, unless the pipe of the first is closed.
 fn run_watched<W: Write + Drop, E: Write + Drop>(
     rt: &HostRuntime,
-    request: Result<Request, LineFault>,
+    request: Result<Request, RequestFault>,
     progress: &Progress<'_>,
     output: W,
     told: E,

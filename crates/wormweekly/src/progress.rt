@@ -1,5 +1,5 @@
 //! How far a request is, for whoever waits at a terminal.
-use metric_request::{Form, LineFault, Request, Task};
+use metric_command_lines::{Form, Request, RequestFault, Task};
 use std::cell::Cell;
 use std::io::{self, IsTerminal, Write};
 use std::time::Instant;
@@ -25,7 +25,7 @@ pub struct Progress<'a> {
 
 impl<'a> Progress<'a> {
     /// That of a request, at its beginning.
-    pub fn new(rt: &'a HostRuntime, request: &Result<Request, LineFault>) -> Progress<'a> {
+    pub fn new(rt: &'a HostRuntime, request: &Result<Request, RequestFault>) -> Progress<'a> {
         let is_shown = rt.stderr().is_terminal();
         let is_counted = is_shown && writes_lines(request) && !rt.stdout().is_terminal();
         Progress {
@@ -97,7 +97,7 @@ impl<'a> Progress<'a> {
 }
 
 // Whether a request writes lines while it runs.
-fn writes_lines(request: &Result<Request, LineFault>) -> bool {
+fn writes_lines(request: &Result<Request, RequestFault>) -> bool {
     match request {
         Ok(request) => {
             request.task == Task::Replay
@@ -108,7 +108,7 @@ fn writes_lines(request: &Result<Request, LineFault>) -> bool {
 }
 
 // What is made of the files.
-fn work_of(request: &Result<Request, LineFault>) -> &'static str {
+fn work_of(request: &Result<Request, RequestFault>) -> &'static str {
     match request {
         Ok(request) => match request.task {
             Task::Make => "making a certificate",

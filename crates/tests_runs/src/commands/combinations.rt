@@ -2,7 +2,7 @@
 use super::{AUDITED, told_whole};
 use crate::asserted::assert_equal;
 use crate::inputs::Parts;
-use metric_command::Line;
+use metric_command_lines::Line;
 
 // A counter with two keys, of whose four combinations two are allowed.
 const COMBINED: &str = "%% catalogue

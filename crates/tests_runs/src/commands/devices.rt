@@ -5,7 +5,7 @@ use super::{
 };
 use crate::asserted::{OrFail, assert_equal};
 use crate::inputs::{BUDGETED, OUTPUT, Parts, READERS};
-use metric_command::Line;
+use metric_command_lines::Line;
 use metric_io::{CutSink, CutSource};
 use std::alloc::Global;
 use std::process::Abort;

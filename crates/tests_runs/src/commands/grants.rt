@@ -2,7 +2,7 @@
 use super::{AUDITED, AUDITED_TRIAL, FOUR_EACH, REPLAY, told_whole};
 use crate::asserted::assert_equal;
 use crate::inputs::{MAIN, Parts};
-use metric_command::Line;
+use metric_command_lines::Line;
 
 // A counter with a spare of two recordings, a recorder with a budget of one, and one without.
 const SPARED: &str = "%% catalogue

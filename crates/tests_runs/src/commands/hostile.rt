@@ -2,7 +2,7 @@
 use super::{CERTIFICATE, FOUR_EACH, MADE, REPLAY, TRIAL, told};
 use crate::asserted::{OrFail, assert_equal};
 use crate::inputs::{BUDGETED, HITS, MAIN, READERS};
-use metric_command::Line;
+use metric_command_lines::Line;
 use metric_io::{CutSink, CutSource};
 use std::alloc::Global;
 use std::process::Abort;

@@ -1,8 +1,8 @@
 //! Pages of replays: the last batch of a reader of each instrument, between what a page begins and ends with.
 use crate::asserted::{OrFail, assert_equal};
-use metric_commands::{PageForm, replay_encoded, replay_page};
 use metric_export::Plain;
 use metric_io::{CutSink, CutSource};
+use metric_kit_commands::{PageForm, replay_encoded, replay_page};
 use std::alloc::Global;
 use std::process::Abort;
 

@@ -11,8 +11,8 @@ returns-then-not-has_batch_of c =
     let run = c.args.run.now in
     first-none c.args.facts.now run.instrument run.start run.entries.now c.args.batches.now c.args.reader (sym c.if-not-has_batch_of.ensures)
 
-pub with_facts-requires : goal.with_facts-requires
-with_facts-requires c = subst AreDense (sym c.in_ok-own.ensures) (own-dense c.args.facts.now c.args.reader c.requires.dense)
+pub new-requires : goal.new-requires
+new-requires c = subst AreDense (sym c.in_ok-own.ensures) (own-dense c.args.facts.now c.args.reader c.requires.dense)
 
 pub first_wrong_of-requires-clause-own : goal.first_wrong_of-requires-clause-own
 first_wrong_of-requires-clause-own c =

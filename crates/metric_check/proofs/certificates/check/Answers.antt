@@ -1,4 +1,5 @@
--- where no fault is found the certificate is valid, and the streams are safe; where it is valid, only memory refuses
+-- where no fault is found the certificate is valid, and the streams are safe; where it is valid, it fails only when
+-- out of memory
 use Rattle.std.proofs.Common.{Bool, List, sym, subst, rules}
 use Rattle.metric_bounds.specs.Safe.{AreSafe}
 use Rattle.metric_views.specs.declared.stream.Stream.{Stream}

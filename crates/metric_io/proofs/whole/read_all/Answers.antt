@@ -1,5 +1,5 @@
--- A turn loses at the source what it adds to the bytes so far, and is counted. What a wrong turn breaks is named, so that its
--- refusal costs no search for an offer.
+-- A turn loses at the source what it adds to the bytes so far, and is counted. What a wrong turn breaks is named, so
+-- that its refusal costs no search for an offer.
 use Rattle.std.proofs.Common.{◌≡◌, ◌∙◌, ap, arith, rules, take, Err}
 use Rattle.std.proofs.lemmas.Grind.{common_steps}
 use Rattle.std.proofs.KnownBytes.{Consumes-kept, Consumes-trans}

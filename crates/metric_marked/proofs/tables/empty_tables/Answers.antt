@@ -13,8 +13,8 @@ use Rattle.metric_marked.proofs.StepLaws.{length-stand}
 use Rattle.metric_marked.proofs.TableLaws.{room-push, stands-push, takes-push}
 use Rattle.metric_marked.proofs.tables.empty_tables.Goals as goal
 
-pub new-requires : goal.new-requires
-new-requires c =
+pub empty_series-requires : goal.empty_series-requires
+empty_series-requires c =
     let streams = c.as_slice-streams.result.now in
     let keys = c.as_slice-keys.result.now in
     let dense : All (λ (s : NumberedStream). IsTrue s.by_product → IsDense keys s.stream) streams =
@@ -33,12 +33,12 @@ loop-numbered-preserved c =
     record {
       stand = subst (λ ss. StandAll c.push.new.self.items ss (λ _. [])) (sym next)
           (subst (λ tables. StandAll tables (take i streams ++ s ∷ []) (λ _. [])) (sym {A = List StreamTable} c.in_ok-push.ensures.items)
-          (stands-push c.loop-numbered.tables.items (take i streams) (λ _. []) _ s c.loop-numbered.invariant.stand (record { number = refl; reader = refl; stands = c.in_ok-new.ensures.stands })));
+          (stands-push c.loop-numbered.tables.items (take i streams) (λ _. []) _ s c.loop-numbered.invariant.stand (record { number = refl; reader = refl; stands = c.in_ok-empty_series.ensures.stands })));
       takes = λ set full. subst (λ tables. TakeAll tables set) (sym {A = List StreamTable} c.in_ok-push.ensures.items)
-          (takes-push c.loop-numbered.tables.items _ set (c.loop-numbered.invariant.takes set full) (c.in_ok-new.ensures.takes set full));
+          (takes-push c.loop-numbered.tables.items _ set (c.loop-numbered.invariant.takes set full) (c.in_ok-empty_series.ensures.takes set full));
       room = λ all. subst HaveRoom (sym {A = List StreamTable} c.in_ok-push.ensures.items)
           (room-push c.loop-numbered.tables.items _ (c.loop-numbered.invariant.room all)
-          (c.in_ok-new.ensures.room
+          (c.in_ok-empty_series.ensures.room
           (subst (λ (n : NumberedStream). IsTrue n.by_product) (sym c.numbered-item.is) (All-get_or (λ (n : NumberedStream). IsTrue n.by_product) streams i s c.loop-numbered-test.true all))));
     }
 

@@ -1,7 +1,7 @@
 -- the slips of one recorder more
 use Rattle.std.proofs.Common.{ℕ, List, [], ◌∷◌, ◌++◌, sym, ap, ◌∙◌, arith}
 use Rattle.std.proofs.lemmas.List.FromFn.{map-range_with_len_more}
-use Rattle.metric_book.specs.declared.slip.Slip.{Slip}
+use Rattle.metric_history.specs.declared.slip.Slip.{Slip}
 use Rattle.metric_provider.specs.Totals.{slips_by, slips_on}
 use Rattle.metric_provider.proofs.journals.slips_on.Goals as goal
 

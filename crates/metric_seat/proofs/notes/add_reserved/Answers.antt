@@ -1,7 +1,7 @@
 -- a slip more
 use Rattle.std.proofs.Common.{◌≡◌, ◌<◌, ℕ, ℤ, ◌+◌, pos, to_z, of_z, w64, List, [], ◌∷◌, ◌++◌, get_or, length, map, take, sym, ap, ◌∙◌, arith, rules}
 use Rattle.std.proofs.lemmas.List.{append_assoc, map_more, take_all}
-use Rattle.metric_book.specs.declared.slip.Slip.{Slip}
+use Rattle.metric_history.specs.declared.slip.Slip.{Slip}
 use Rattle.metric_seat.specs.declared.keys.Measurement.{Measurement}
 use Rattle.metric_seat.specs.KeyRecordings.{slip_of_one}
 use Rattle.metric_seat.proofs.notes.add_reserved.Goals as goal

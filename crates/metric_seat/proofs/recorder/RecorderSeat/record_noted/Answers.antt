@@ -1,7 +1,7 @@
 -- all have slips before the lock is taken, and those that were not told of are struck out
 use Rattle.std.proofs.Common.{◌++◌, Ok, Err, List, inl, inr, map, take, refl}
 use Rattle.std.specs.Prelude.{slice_set}
-use Rattle.metric_book.specs.declared.slip.Slip.{Slip}
+use Rattle.metric_history.specs.declared.slip.Slip.{Slip}
 use Rattle.metric_seat.specs.KeyRecordings.{slip_of_one}
 use Rattle.metric_seat.specs.Seats.{provider_of, slips_at}
 use Rattle.metric_seat.proofs.NotingLaws.{admitted_alike, alike_after, handed_alike, no_slips_after, noted_then_told, still_long, struck_after}

@@ -1,8 +1,8 @@
--- nothing was recorded, so the recording fits, and memory may be refused
+-- nothing was recorded, so the recording fits, and memory may run out
 use mir.Val.{SFits}
 use Rattle.std.proofs.Common.{◌≡◌, List, Err, ap, sym, subst, refl, ◌∙◌, true, rules, w64}
 use Rattle.std.specs.Prelude.{slice_index}
-use Rattle.metric_book.specs.Journals.{MayAnswer}
+use Rattle.metric_history.specs.Journals.{MayAnswer}
 use Rattle.metric_contents.specs.declared.refusal.Refusal.TheVariants.{Memory}
 use Rattle.metric_history.specs.declared.entry.Entry.{Entry}
 use Rattle.metric_history.specs.Windows.{fits_all}

@@ -1,8 +1,0 @@
--- the seats so far
-use Rattle.std.proofs.Common.{◌≡◌, map}
-use Rattle.std.specs.List.{range_with_len}
-use Rattle.metric_c.specs.Opening.{new_recorder_of, recorders_in}
-use Rattle.metric_c.proofs.opening.new_recorders.Given as goal
-
-abbrev pub invariant-loop-number : goal.invariant-loop-number
-invariant-loop-number l = recorders_in l.all.items ≡ map (new_recorder_of l.plan l.run) (range_with_len 0 l.number)

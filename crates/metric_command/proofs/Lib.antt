@@ -1,2 +1,0 @@
-mod FaultLemmas
-mod NumberLaws

@@ -1,4 +1,0 @@
-pub mod Kit
-pub mod Lines
-pub mod Numbers
-pub mod LineFaults

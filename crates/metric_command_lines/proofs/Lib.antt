@@ -1,0 +1,7 @@
+mod Choices
+mod LineFaultLemmas
+mod NumberLaws
+mod Readings
+mod RequestFaultLemmas
+mod Resources
+mod Words

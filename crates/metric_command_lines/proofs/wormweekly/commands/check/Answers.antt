@@ -1,0 +1,5 @@
+-- One argument is added.
+use Rattle.metric_command_lines.proofs.wormweekly.commands.check.Goals as goal
+
+pub returns-clause-app : goal.returns-clause-app
+returns-clause-app c = c.with_argument.ensures.app _ _ c.over_pair-command.ensures.app c.file-certificate.ensures.rule c.file-certificate.ensures.own

@@ -1,0 +1,5 @@
+-- The option is added.
+use Rattle.metric_command_lines.proofs.wormweekly.expand_command.expand.Goals as goal
+
+pub returns-clause-app : goal.returns-clause-app
+returns-clause-app c = c.with_argument.ensures.app _ _ c.single-command.ensures.app c.output.ensures.rule c.output.ensures.own

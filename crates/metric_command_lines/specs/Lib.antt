@@ -1,0 +1,10 @@
+pub mod Apps
+pub mod Attributes
+pub mod Forms
+pub mod Kit
+pub mod LineFaults
+pub mod Lines
+pub mod Numbers
+pub mod RequestFaults
+pub mod Requests
+pub mod Standard

@@ -1,0 +1,189 @@
+-- What the words of a command line mean.
+use Rattle.std.specs.Prelude.{◌&&◌, ◌||◌, Bool, false, not, List, [], Option, Some, None}
+use Rattle.std.specs.Prelude.{Result, codes, is_some, if◌then◌else◌, unwrap_or}
+use Rattle.std.specs.List.{list_any}
+use Rattle.std.specs.Option.{option_and_then, option_map_or}
+use Rattle.std.specs.Result.{result_unwrap_or}
+use Rattle.std.specs.Str.{bytes_eq}
+use Rattle.clap.specs.Words.{Row, Text, all_of, first_of}
+use Rattle.metric_base.specs.Steps.{◌>>=◌, require}
+use Rattle.metric_advice.specs.Kinds.{is_kind}
+use Rattle.metric_contents.specs.declared.attributes.OwnedAttr.{OwnedAttr}
+use Rattle.metric_command_lines.specs.Attributes.{resource_in}
+use Rattle.metric_command_lines.specs.Numbers.{number_in}
+use Rattle.metric_command_lines.specs.declared.wormweekly.fault.Misuse.{Misuse}
+use Rattle.metric_command_lines.specs.declared.wormweekly.fault.Misuse.TheVariants.{Deny, Allow, Outlet, Audit, Resource, Input}
+use Rattle.metric_command_lines.specs.declared.wormweekly.fault.Misuse.TheVariants as misuses
+use Rattle.metric_command_lines.specs.declared.wormweekly.request.Concerns.{Concerns}
+use Rattle.metric_command_lines.specs.declared.wormweekly.request.Files.{Files}
+use Rattle.metric_command_lines.specs.declared.wormweekly.request.Form.{Form}
+use Rattle.metric_command_lines.specs.declared.wormweekly.request.Form.TheVariants.{Replies, OtlpLines, OtlpBytes}
+use Rattle.metric_command_lines.specs.declared.wormweekly.request.Form.TheVariants.{Prometheus, OpenMetrics}
+use Rattle.metric_command_lines.specs.declared.wormweekly.request.Form.TheVariants.{OpenMetricsCreated}
+use Rattle.metric_command_lines.specs.Forms.{is_page}
+use Rattle.metric_command_lines.specs.Standard.{output_of, reads_twice}
+use Rattle.metric_command_lines.specs.declared.wormweekly.request.Options.{Options}
+use Rattle.metric_command_lines.specs.declared.wormweekly.request.Outlets.{Outlets}
+use Rattle.metric_command_lines.specs.declared.wormweekly.request.Request.{Request}
+use Rattle.metric_command_lines.specs.declared.wormweekly.request.Task.{Task}
+use Rattle.metric_command_lines.specs.declared.wormweekly.request.Task.TheVariants.{Lint, Show, Make, Check}
+use Rattle.metric_command_lines.specs.declared.wormweekly.request.Task.TheVariants.{Headroom, Replay, Draw, Diff}
+use Rattle.metric_command_lines.specs.declared.wormweekly.request.Task.TheVariants.{Expand, Report}
+
+-- the command by its name
+abbrev pub task_of : Text → Task
+task_of name =
+    if bytes_eq name (codes "lint") then Lint
+    else if bytes_eq name (codes "show") then Show
+    else if bytes_eq name (codes "make") then Make
+    else if bytes_eq name (codes "check") then Check
+    else if bytes_eq name (codes "headroom") then Headroom
+    else if bytes_eq name (codes "replay") then Replay
+    else if bytes_eq name (codes "diff") then Diff
+    else if bytes_eq name (codes "report") then Report
+    else if bytes_eq name (codes "expand") then Expand
+    else Draw
+
+-- an argument was given this word
+abbrev pub has_word : Text → Text → List Row → Bool
+has_word id word rows = option_map_or (λ text. bytes_eq text word) (first_of id rows) false
+
+-- the form that a word names
+abbrev pub form_of : Text → Option Form
+form_of word =
+    if bytes_eq word (codes "otlp-json") then Some OtlpLines
+    else if bytes_eq word (codes "otlp-bytes") then Some OtlpBytes
+    else if bytes_eq word (codes "prometheus") then Some Prometheus
+    else if bytes_eq word (codes "openmetrics") then Some OpenMetrics
+    else if bytes_eq word (codes "openmetrics-created") then Some OpenMetricsCreated
+    else None
+
+-- the form that a replay has; without `--as` it prints the replies
+abbrev pub form_in : List Row → Form
+form_in rows = unwrap_or (option_and_then form_of (first_of (codes "as") rows)) Replies
+
+-- `--as` was given a word that names no form
+abbrev pub forms_else : List Row → Bool
+forms_else rows =
+    option_map_or (λ word. not (is_some (form_of word))) (first_of (codes "as") rows) false
+
+-- a reader is named where no page is printed
+abbrev pub reads_else : List Row → Bool
+reads_else rows = is_some (first_of (codes "reader") rows) && not (is_page (form_in rows))
+
+-- the words of all uses of an option
+abbrev pub words_in : Text → List Row → List Text
+words_in id rows = unwrap_or (all_of id rows) []
+
+-- a word is a kind of remark
+abbrev pub is_concern : Text → Bool
+is_concern word = bytes_eq word (codes "exposure") || is_kind word
+
+-- it is that, or stands for all
+abbrev pub is_denied : Text → Bool
+is_denied word = bytes_eq word (codes "remarks") || is_concern word
+
+-- a use of `--deny` names neither
+abbrev pub denies_else : List Row → Bool
+denies_else rows = list_any (λ word. not (is_denied word)) (words_in (codes "deny") rows)
+
+-- a use of `--allow` names no kind of remark
+abbrev pub allows_else : List Row → Bool
+allows_else rows = list_any (λ word. not (is_concern word)) (words_in (codes "allow") rows)
+
+abbrev pub concerns_in : List Row → Concerns
+concerns_in rows = record {
+  allowed = words_in (codes "allow") rows;
+  denied = words_in (codes "deny") rows;
+}
+
+-- a use of `--for` names this way out
+abbrev pub is_for : Text → List Row → Bool
+is_for outlet rows = list_any (λ word. bytes_eq word outlet) (words_in (codes "for") rows)
+
+abbrev pub outlets_in : List Row → Outlets
+outlets_in rows = record {
+  prometheus = is_for (codes "prometheus") rows;
+  otlp = is_for (codes "otlp") rows;
+}
+
+abbrev pub is_outlet : Text → Bool
+is_outlet word = bytes_eq word (codes "prometheus") || bytes_eq word (codes "otlp")
+
+-- a use of `--for` names no way out
+abbrev pub outlets_else : List Row → Bool
+outlets_else rows = list_any (λ word. not (is_outlet word)) (words_in (codes "for") rows)
+
+-- the text of an argument that has to be given
+abbrev pub text_in : Text → List Row → Text
+text_in id rows = unwrap_or (first_of id rows) []
+
+-- Of the two last files of a replay the certificate is the first, where there are two.
+abbrev pub certificate_in : List Row → Option Text
+certificate_in rows =
+    if is_some (first_of (codes "fourth") rows) then first_of (codes "third") rows
+    else first_of (codes "certificate") rows
+
+abbrev pub script_in : List Row → Option Text
+script_in rows =
+    if is_some (first_of (codes "fourth") rows) then first_of (codes "fourth") rows
+    else first_of (codes "third") rows
+
+-- an old file: where the other old one alone is named, it is the new one
+abbrev pub old_in : Text → Text → Text → List Row → Option Text
+old_in id other new rows =
+    if not (is_some (first_of id rows)) && is_some (first_of other rows) then Some (text_in new rows)
+    else first_of id rows
+
+abbrev pub files_in : List Row → Files
+files_in rows = record {
+  old_catalogue = old_in (codes "old_catalogue") (codes "old_config") (codes "catalogue") rows;
+  old_config = old_in (codes "old_config") (codes "old_catalogue") (codes "config") rows;
+  catalogue = text_in (codes "catalogue") rows;
+  config = text_in (codes "config") rows;
+  certificate = certificate_in rows;
+  script = script_in rows;
+  output = output_of (first_of (codes "output") rows);
+}
+
+abbrev pub options_in : List Row → Options
+options_in rows = record {
+  outlets = outlets_in rows;
+  json = has_word (codes "json") (codes "true") rows;
+  audit = has_word (codes "audit") (codes "true") rows;
+  form = form_in rows;
+  width = number_in (first_of (codes "width") rows);
+  rate = number_in (first_of (codes "rate") rows);
+  instances = number_in (first_of (codes "instances") rows);
+  lasts = number_in (first_of (codes "lasts") rows);
+  deny_breaking = has_word (codes "denied") (codes "breaking") rows;
+}
+
+-- the resource that is asked for, or the first misuse of an option
+unfoldable pub resource_asked : List Row → Result (List OwnedAttr) Misuse
+resource_asked rows = do
+  _ ← require (not (denies_else rows)) Deny
+  _ ← require (not (is_some (first_of (codes "denied") rows)
+      && not (has_word (codes "denied") (codes "breaking") rows))) misuses.Change
+  _ ← require (not (allows_else rows)) Allow
+  _ ← require (not (outlets_else rows)) Outlet
+  _ ← require (not (forms_else rows)) misuses.Form
+  _ ← require (not (is_some (first_of (codes "as") rows)
+      && has_word (codes "audit") (codes "true") rows)) Audit
+  _ ← require (is_some (first_of (codes "as") rows)
+      || not (is_some (first_of (codes "resource") rows))) Resource
+  _ ← require (not (reads_else rows)) misuses.Reader
+  _ ← require (not (reads_twice (files_in rows))) Input
+  resource_in (words_in (codes "resource") rows)
+
+-- the request of a command by its name, with its arguments
+abbrev pub request_in : Text × List Row → Request
+request_in named =
+    record {
+      task = task_of named.0;
+      files = files_in named.1;
+      options = options_in named.1;
+      concerns = concerns_in named.1;
+      resource = result_unwrap_or (resource_asked named.1) [];
+      reader = first_of (codes "reader") named.1;
+    }

@@ -1,0 +1,16 @@
+//! The command lines of `metric_kit` and of `wormweekly`, read by clap: what their words ask for.
+//!
+//! [`command_of`] reads those of `metric_kit`, which tells nothing of clap. [`request_of`] reads those of `wormweekly`,
+//! which has files, options, help and a version.
+#![tactic(auto)]
+
+mod kit;
+mod numbers;
+mod programs;
+mod wormweekly;
+
+pub use kit::{Line, LineFault, command_of, lines_are_taken, others_are_refused};
+pub use wormweekly::{
+    Concerns, Files, Form, Misuse, Options, Outlets, Request, RequestFault, Task, is_standard,
+    request_of,
+};

@@ -1,0 +1,17 @@
+//! The command lines of `wormweekly`.
+
+mod arguments;
+mod attributes;
+mod commands;
+mod diff_command;
+mod expand_command;
+mod fault;
+mod reading;
+mod report_command;
+mod request;
+mod standard;
+
+pub use fault::{Misuse, RequestFault};
+pub use reading::request_of;
+pub use request::{Concerns, Files, Form, Options, Outlets, Request, Task};
+pub use standard::is_standard;

@@ -1,0 +1,445 @@
+//! The reading of a command line.
+ghost use Rattle.std.specs.Prelude.{◌≡◌, [], IfErr, IfOk, IsOk, IsSomeAnd, Ok, OnOk, Some, codes, is_some, map, not, true};
+ghost use Rattle.std.specs.List.{list_any};
+ghost use Rattle.std.specs.Str.{bytes_eq};
+ghost use Rattle.clap.specs.Words.{fault_of, first_of, found_of, rows_of, subcommand_of, subcommand_rows_of, takes};
+ghost use Rattle.metric_command_lines.specs.Apps.{program_app};
+ghost use Rattle.metric_command_lines.specs.Attributes.{resource_in};
+ghost use Rattle.metric_command_lines.specs.RequestFaults.{IsAllowed, IsMisuse, IsNoRequest, IsNotAsked, IsOwn};
+ghost use Rattle.metric_command_lines.specs.Standard.{output_of};
+ghost use Rattle.metric_command_lines.specs.Requests.{certificate_in, denies_else, files_in, form_in, form_of, forms_else, has_word, old_in, options_in, request_in, resource_asked, script_in, task_of, text_in};
+ghost use Rattle.metric_command_lines.specs.Requests.{allows_else, concerns_in, is_concern, is_denied, is_for, is_outlet, outlets_else, outlets_in, reads_else, words_in};
+
+use crate::numbers::number_of;
+use crate::wormweekly::attributes::resource_of;
+use crate::wormweekly::commands::program;
+use crate::wormweekly::fault::{Misuse, RequestFault, fault_of};
+use crate::wormweekly::request::{Concerns, Files, Form, Options, Outlets, Request, Task};
+use crate::wormweekly::standard::{output_of, reads_twice};
+use clap::ArgMatches;
+use metric_advice::is_kind;
+use metric_base::{Items, Text};
+use metric_resource::Resource;
+use std::alloc::{AllocError, Global};
+
+/// What the words of a command line ask for. The first word is the program's name, whatever it is.
+///
+/// # Errors
+///
+/// [`RequestFault::Told`] for a call for help or for the version, with the text; [`RequestFault::Usage`] where clap
+/// refuses the words for another cause, with its text; [`RequestFault::Nothing`] where they name no command;
+/// [`RequestFault::Misused`] where an option is given what it does not take; and [`RequestFault::Memory`].
+pub fn request_of<'a>(alloc: Global, words: &'a [&'a str]) -> Result<Request, RequestFault>
+    ensures answers { IfOk result (λ request. IsSomeAnd
+        (subcommand_of program_app (map (λ w. w.now) words.entry.now))
+        (λ named. request ≡ request_in named)) }
+
+    // Clap has a fault to tell of what it refuses, and none of the other words.
+    ensures accepted { OnOk result
+        (fault_of program_app (map (λ w. w.now) words.entry.now) ≡ []) }
+    ensures allowed { OnOk result
+        (IsAllowed (subcommand_of program_app (map (λ w. w.now) words.entry.now))) }
+    ensures refused { IfErr result (λ fault.
+        IsNoRequest fault (map (λ w. w.now) words.entry.now)) }
+    ensures taken { takes program_app (map (λ w. w.now) words.entry.now) ≡ true →
+        IfErr result IsOwn }
+{
+    let command = program(alloc)?;
+    match command.try_get_matches_from(words) {
+        Ok(matches) => request_from(alloc, &matches),
+        Err(error) => Err(fault_of(alloc, &error)),
+    }
+}
+
+// What the matches ask for.
+fn request_from(alloc: Global, matches: &ArgMatches<'_>) -> Result<Request, RequestFault>
+    ensures answers { IfOk result (λ request. IsSomeAnd (subcommand_rows_of matches.now)
+        (λ named. request ≡ request_in named)) }
+    ensures allowed { OnOk result (IsAllowed (subcommand_rows_of matches.now)) }
+    ensures refused { IfErr result (λ fault. IsNotAsked fault (subcommand_rows_of matches.now)) }
+{
+    match matches.subcommand() {
+        Some((command, arguments)) => named_request(alloc, command, arguments),
+        None => Err(RequestFault::Nothing),
+    }
+}
+
+// What a command asks for by its arguments.
+fn named_request(
+    alloc: Global,
+    command: &str,
+    arguments: &ArgMatches<'_>,
+) -> Result<Request, RequestFault>
+    ensures answers { IfOk result (λ request.
+        request ≡ request_in (command.now, rows_of (found_of arguments.now))) }
+    ensures allowed { OnOk result (IsOk (resource_asked (rows_of (found_of arguments.now)))) }
+    ensures refused { IfErr result (λ fault.
+        IsNotAsked fault (Some (command.now, rows_of (found_of arguments.now)))) }
+{
+    let files = files_of(alloc, arguments)?;
+    let resource = resource_asked(alloc, arguments, &files)?;
+    let concerns = concerns_in(alloc, arguments)?;
+    let reader = optional(alloc, arguments, "reader")?;
+    Ok(Request {
+        task: task_of(command),
+        files,
+        options: options_of(arguments),
+        concerns,
+        resource,
+        reader,
+    })
+}
+
+// The resource that is asked for, or the first misuse of an option.
+#[tactic(auto, unfolding(crate::specs::Requests::resource_asked))]
+fn resource_asked(
+    alloc: Global,
+    arguments: &ArgMatches<'_>,
+    files: &Files,
+) -> Result<Resource, RequestFault>
+    requires { files.now ≡ files_in (rows_of (found_of arguments.now)) }
+    ensures given { IfOk result (λ resource.
+        resource_asked (rows_of (found_of arguments.now)) ≡ Ok resource) }
+    ensures refused { IfErr result (λ fault.
+        IsMisuse fault (resource_asked (rows_of (found_of arguments.now)))) }
+{
+    if denies_else(arguments) {
+        return Err(RequestFault::Misused(Misuse::Deny));
+    }
+    if has_text(arguments, "denied") && !has_word(arguments, "denied", "breaking") {
+        return Err(RequestFault::Misused(Misuse::Change));
+    }
+    if allows_else(arguments) {
+        return Err(RequestFault::Misused(Misuse::Allow));
+    }
+    if outlets_else(arguments) {
+        return Err(RequestFault::Misused(Misuse::Outlet));
+    }
+    if forms_else(arguments) {
+        return Err(RequestFault::Misused(Misuse::Form));
+    }
+    if has_text(arguments, "as") && has_word(arguments, "audit", "true") {
+        return Err(RequestFault::Misused(Misuse::Audit));
+    }
+    if !has_text(arguments, "as") && has_text(arguments, "resource") {
+        return Err(RequestFault::Misused(Misuse::Resource));
+    }
+    if reads_else(arguments) {
+        return Err(RequestFault::Misused(Misuse::Reader));
+    }
+    if reads_twice(files) {
+        return Err(RequestFault::Misused(Misuse::Input));
+    }
+    resource_given(alloc, arguments)
+}
+
+// Whether a reader is named where no page is printed.
+fn reads_else(arguments: &ArgMatches<'_>) -> bool
+    ensures { result ≡ reads_else (rows_of (found_of arguments.now)) }
+{
+    has_text(arguments, "reader") && !form_in(arguments).is_page()
+}
+
+// The resource that the words of all uses of `--resource` give.
+fn resource_given(alloc: Global, arguments: &ArgMatches<'_>) -> Result<Resource, RequestFault>
+    ensures given { IfOk result (λ resource.
+        resource_in (words_in (codes "resource") (rows_of (found_of arguments.now))) ≡ Ok resource) }
+    ensures refused { IfErr result (λ fault.
+        IsMisuse fault (resource_in (words_in (codes "resource") (rows_of (found_of arguments.now))))) }
+{
+    match arguments.get_strs("resource") {
+        Some(words) => resource_of(alloc, words),
+        None => resource_of(alloc, &[]),
+    }
+}
+
+// Whether an argument was given.
+fn has_text(arguments: &ArgMatches<'_>, id: &str) -> bool
+    ensures { result ≡ is_some (first_of id.now (rows_of (found_of arguments.now))) }
+{
+    arguments.get_str(id).is_some()
+}
+
+// The form that a replay has.
+fn form_in(arguments: &ArgMatches<'_>) -> Form
+    ensures { result ≡ form_in (rows_of (found_of arguments.now)) }
+{
+    match arguments.get_str("as") {
+        Some(word) => form_of(word).unwrap_or(Form::Replies),
+        None => Form::Replies,
+    }
+}
+
+// The form that a word names.
+fn form_of(word: &str) -> Option<Form>
+    ensures { result ≡ form_of word.now }
+{
+    match word {
+        "otlp-json" => Some(Form::OtlpLines),
+        "otlp-bytes" => Some(Form::OtlpBytes),
+        "prometheus" => Some(Form::Prometheus),
+        "openmetrics" => Some(Form::OpenMetrics),
+        "openmetrics-created" => Some(Form::OpenMetricsCreated),
+        _ => None,
+    }
+}
+
+// Whether `--as` was given a word that names no form.
+fn forms_else(arguments: &ArgMatches<'_>) -> bool
+    ensures { result ≡ forms_else (rows_of (found_of arguments.now)) }
+{
+    match arguments.get_str("as") {
+        Some(word) => form_of(word).is_none(),
+        None => false,
+    }
+}
+
+// The command by its name.
+fn task_of(command: &str) -> Task
+    ensures { result ≡ task_of command.now }
+{
+    match command {
+        "lint" => Task::Lint,
+        "show" => Task::Show,
+        "make" => Task::Make,
+        "check" => Task::Check,
+        "headroom" => Task::Headroom,
+        "replay" => Task::Replay,
+        "diff" => Task::Diff,
+        "report" => Task::Report,
+        "expand" => Task::Expand,
+        _ => Task::Draw,
+    }
+}
+
+fn files_of(alloc: Global, arguments: &ArgMatches<'_>) -> Result<Files, AllocError>
+    ensures { IfOk result (λ files. files ≡ files_in (rows_of (found_of arguments.now))) }
+{
+    let old_catalogue = old_path(alloc, arguments, "old_catalogue", "old_config", "catalogue")?;
+    let old_config = old_path(alloc, arguments, "old_config", "old_catalogue", "config")?;
+    let catalogue = text_of(alloc, arguments, "catalogue")?;
+    let config = text_of(alloc, arguments, "config")?;
+    let certificate = certificate_of(alloc, arguments)?;
+    let script = script_of(alloc, arguments)?;
+    let output = output_in(alloc, arguments)?;
+    Ok(Files {
+        old_catalogue,
+        old_config,
+        catalogue,
+        config,
+        certificate,
+        script,
+        output,
+    })
+}
+
+// The path of an old file: where the other old file alone is named, it is the new one.
+fn old_path(
+    alloc: Global,
+    arguments: &ArgMatches<'_>,
+    id: &str,
+    other: &str,
+    new: &str,
+) -> Result<Option<Text>, AllocError>
+    ensures { IfOk result (λ path.
+        path ≡ old_in id.now other.now new.now (rows_of (found_of arguments.now))) }
+{
+    if !has_text(arguments, id) && has_text(arguments, other) {
+        Ok(Some(text_of(alloc, arguments, new)?))
+    } else {
+        optional(alloc, arguments, id)
+    }
+}
+
+// Of the two last files of a replay the certificate is the first, where there are two.
+fn certificate_of(alloc: Global, arguments: &ArgMatches<'_>) -> Result<Option<Text>, AllocError>
+    ensures { IfOk result (λ path. path ≡ certificate_in (rows_of (found_of arguments.now))) }
+{
+    match arguments.get_str("fourth") {
+        Some(_) => optional(alloc, arguments, "third"),
+        None => optional(alloc, arguments, "certificate"),
+    }
+}
+
+fn script_of(alloc: Global, arguments: &ArgMatches<'_>) -> Result<Option<Text>, AllocError>
+    ensures { IfOk result (λ path. path ≡ script_in (rows_of (found_of arguments.now))) }
+{
+    match arguments.get_str("fourth") {
+        Some(_) => optional(alloc, arguments, "fourth"),
+        None => optional(alloc, arguments, "third"),
+    }
+}
+
+// The file to write to.
+fn output_in(alloc: Global, arguments: &ArgMatches<'_>) -> Result<Option<Text>, AllocError>
+    ensures { IfOk result (λ output.
+        output ≡ output_of (first_of (codes "output") (rows_of (found_of arguments.now)))) }
+{
+    output_of(alloc, arguments.get_str("output"))
+}
+
+fn options_of(arguments: &ArgMatches<'_>) -> Options
+    ensures { result ≡ options_in (rows_of (found_of arguments.now)) }
+{
+    Options {
+        outlets: outlets_in(arguments),
+        json: has_word(arguments, "json", "true"),
+        audit: has_word(arguments, "audit", "true"),
+        form: form_in(arguments),
+        width: number_of(arguments, "width"),
+        rate: number_of(arguments, "rate"),
+        instances: number_of(arguments, "instances"),
+        lasts: number_of(arguments, "lasts"),
+        deny_breaking: has_word(arguments, "denied", "breaking"),
+    }
+}
+
+// The text of an argument that has to be given.
+fn text_of(alloc: Global, arguments: &ArgMatches<'_>, id: &str) -> Result<Text, AllocError>
+    ensures { IfOk result (λ text. text ≡ text_in id.now (rows_of (found_of arguments.now))) }
+{
+    match arguments.get_str(id) {
+        Some(text) => Text::new(alloc, text),
+        None => Text::new(alloc, ""),
+    }
+}
+
+// The text of an argument, where it was given.
+fn optional(alloc: Global, arguments: &ArgMatches<'_>, id: &str) -> Result<Option<Text>, AllocError>
+    ensures { IfOk result (λ text. text ≡ first_of id.now (rows_of (found_of arguments.now))) }
+{
+    match arguments.get_str(id) {
+        Some(text) => Ok(Some(Text::new(alloc, text)?)),
+        None => Ok(None),
+    }
+}
+
+// Whether an argument was given this word.
+fn has_word(arguments: &ArgMatches<'_>, id: &str, word: &str) -> bool
+    ensures { result ≡ has_word id.now word.now (rows_of (found_of arguments.now)) }
+{
+    arguments.get_str(id) == Some(word)
+}
+
+// Whether a use of `--deny` names neither `remarks` nor a kind of them.
+fn denies_else(arguments: &ArgMatches<'_>) -> bool
+    ensures { result ≡ denies_else (rows_of (found_of arguments.now)) }
+{
+    match arguments.get_strs("deny") {
+        Some(words) => has_other_than_denied(words),
+        None => false,
+    }
+}
+
+fn has_other_than_denied(words: &[&str]) -> bool
+    ensures { result ≡ list_any (λ w. not (is_denied w.now)) words.now }
+{
+    words.iter().any(|word| !is_denied(word))
+}
+
+fn is_denied(word: &str) -> bool
+    ensures { result ≡ is_denied word.now }
+{
+    word == "remarks" || is_concern(word)
+}
+
+// Whether a use of `--allow` names no kind of remark.
+fn allows_else(arguments: &ArgMatches<'_>) -> bool
+    ensures { result ≡ allows_else (rows_of (found_of arguments.now)) }
+{
+    match arguments.get_strs("allow") {
+        Some(words) => has_other_than_concerns(words),
+        None => false,
+    }
+}
+
+fn has_other_than_concerns(words: &[&str]) -> bool
+    ensures { result ≡ list_any (λ w. not (is_concern w.now)) words.now }
+{
+    words.iter().any(|word| !is_concern(word))
+}
+
+// Whether a word is a kind of remark.
+fn is_concern(word: &str) -> bool
+    ensures { result ≡ is_concern word.now }
+{
+    word == "exposure" || is_kind(word)
+}
+
+// Which remarks count.
+fn concerns_in(alloc: Global, arguments: &ArgMatches<'_>) -> Result<Concerns, AllocError>
+    ensures { IfOk result (λ concerns. concerns ≡ concerns_in (rows_of (found_of arguments.now))) }
+{
+    let allowed = words_in(alloc, arguments, "allow")?;
+    let denied = words_in(alloc, arguments, "deny")?;
+    Ok(Concerns { allowed, denied })
+}
+
+// The words of all uses of an option.
+fn words_in(alloc: Global, arguments: &ArgMatches<'_>, id: &str) -> Result<Items<Text>, AllocError>
+    ensures { IfOk result (λ words. words ≡ words_in id.now (rows_of (found_of arguments.now))) }
+{
+    match arguments.get_strs(id) {
+        Some(words) => owned(alloc, words),
+        None => owned(alloc, &[]),
+    }
+}
+
+fn owned(alloc: Global, words: &[&str]) -> Result<Items<Text>, AllocError>
+    ensures { IfOk result (λ owned. owned ≡ map (λ w. w.now) words.now) }
+{
+    let mut owned = Items::new(alloc);
+    for word in words {
+        owned.push(Text::new(alloc, word)?)?;
+    }
+    Ok(owned)
+}
+
+// The ways out that the uses of `--for` name.
+fn outlets_in(arguments: &ArgMatches<'_>) -> Outlets
+    ensures { result ≡ outlets_in (rows_of (found_of arguments.now)) }
+{
+    Outlets {
+        prometheus: is_for(arguments, "prometheus"),
+        otlp: is_for(arguments, "otlp"),
+    }
+}
+
+// Whether a use of `--for` names a way out.
+fn is_for(arguments: &ArgMatches<'_>, outlet: &str) -> bool
+    ensures { result ≡ is_for outlet.now (rows_of (found_of arguments.now)) }
+{
+    match arguments.get_strs("for") {
+        Some(words) => has_word_among(words, outlet),
+        None => false,
+    }
+}
+
+fn has_word_among(words: &[&str], wanted: &str) -> bool
+    ensures { result ≡ list_any (λ w. bytes_eq w.now wanted.now) words.now }
+{
+    words.iter().any(|word| *word == wanted)
+}
+
+// Whether a use of `--for` names no way out.
+fn outlets_else(arguments: &ArgMatches<'_>) -> bool
+    ensures { result ≡ outlets_else (rows_of (found_of arguments.now)) }
+{
+    match arguments.get_strs("for") {
+        Some(words) => has_other_than_outlets(words),
+        None => false,
+    }
+}
+
+fn has_other_than_outlets(words: &[&str]) -> bool
+    ensures { result ≡ list_any (λ w. not (is_outlet w.now)) words.now }
+{
+    words.iter().any(|word| !is_outlet(word))
+}
+
+// Whether a word names a way out.
+fn is_outlet(word: &str) -> bool
+    ensures { result ≡ is_outlet word.now }
+{
+    word == "prometheus" || word == "otlp"
+}

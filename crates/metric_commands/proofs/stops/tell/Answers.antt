@@ -1,5 +1,0 @@
-use Rattle.metric_commands.proofs.StopLaws.{told}
-use Rattle.metric_commands.proofs.stops.tell.Goals as goal
-
-pub returns : goal.returns
-returns g c = told c.write_line-written.result _ _ c.write_line-written.ensures.whole c.write_line-written.ensures.prefix c.write_line-written.ensures.broken

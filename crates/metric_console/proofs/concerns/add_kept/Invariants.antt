@@ -1,8 +1,0 @@
--- what was kept so far
-use Rattle.std.proofs.Common.{◌≡◌, ◌++◌, take}
-use Rattle.std.specs.List.{flat_map}
-use Rattle.metric_console.specs.Concerns.{unless_allowed}
-use Rattle.metric_console.proofs.concerns.add_kept.Given as goal
-
-abbrev pub invariant-loop-remark : goal.invariant-loop-remark
-invariant-loop-remark l = l.kept ≡ l.fn.kept ++ flat_map (unless_allowed l.allowed) (take l.remark-index l.remarks)

@@ -1,8 +1,0 @@
--- what is told of the readers so far
-use Rattle.std.proofs.Common.{◌≡◌, ◌++◌}
-use Rattle.std.specs.List.{flat_map, range_with_len}
-use Rattle.metric_console.specs.Exposures.{told_exposures}
-use Rattle.metric_console.proofs.exposures.add_outlet.Given as goal
-
-abbrev pub invariant-loop-reader : goal.invariant-loop-reader
-invariant-loop-reader l = l.found.items ≡ l.fn.found.items ++ flat_map (told_exposures l.outlet l.catalogue l.streams) (range_with_len 0 l.reader)

@@ -1,0 +1,13 @@
+mod AccountLaws
+mod AnswerLaws
+mod AnsweredInputs
+mod AuditLaws
+mod AuditedRuns
+mod FormLaws
+mod OutputLaws
+mod PageRuns
+mod PartLaws
+mod PieceLaws
+mod PlanLaws
+mod ScriptFaults
+mod TellingLaws

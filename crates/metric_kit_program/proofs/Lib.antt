@@ -1,0 +1,3 @@
+mod StopLaws
+mod ThreadLaws
+mod TotalLaws

@@ -1,6 +1,0 @@
-mod Choices
-mod FaultLemmas
-mod NumberLaws
-mod Readings
-mod Resources
-mod Words

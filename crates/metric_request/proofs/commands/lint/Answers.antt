@@ -1,9 +1,0 @@
--- Each option is added.
-use Rattle.metric_request.proofs.commands.lint.Goals as goal
-
-pub returns-clause-app : goal.returns-clause-app
-returns-clause-app c =
-    let first = c.with_argument-command.ensures.app _ _ c.over_pair-command.ensures.app c.flag.ensures.rule c.flag.ensures.own in
-    let second = c.with_argument-command-2.ensures.app _ _ first c.texts.ensures.rule c.texts.ensures.own in
-    let third = c.with_argument-command-3.ensures.app _ _ second c.texts-2.ensures.rule c.texts-2.ensures.own in
-    c.with_argument.ensures.app _ _ third c.texts-3.ensures.rule c.texts-3.ensures.own

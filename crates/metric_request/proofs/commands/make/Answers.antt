@@ -1,5 +1,0 @@
--- One argument is added.
-use Rattle.metric_request.proofs.commands.make.Goals as goal
-
-pub returns-clause-app : goal.returns-clause-app
-returns-clause-app c = c.with_argument.ensures.app _ _ c.over_pair-command.ensures.app c.output.ensures.rule c.output.ensures.own

@@ -1,5 +1,0 @@
--- The option is added.
-use Rattle.metric_request.proofs.expand_command.expand.Goals as goal
-
-pub returns-clause-app : goal.returns-clause-app
-returns-clause-app c = c.with_argument.ensures.app _ _ c.single-command.ensures.app c.output.ensures.rule c.output.ensures.own

@@ -1,6 +1,0 @@
-use Rattle.std.proofs.Common.{◌∙◌}
-use Rattle.metric_request.proofs.NumberLaws.{parsed}
-use Rattle.metric_request.proofs.reading.number_from.Goals as goal
-
-pub returns : goal.returns
-returns c = c.unwrap_or.ensures ∙ parsed c.args.text.now c.parse.result c.parse.ensures.value.0

@@ -1,6 +1,0 @@
--- the words so far
-use Rattle.std.proofs.Common.{◌≡◌, map, take}
-use Rattle.metric_request.proofs.reading.owned.Given as goal
-
-abbrev pub invariant-loop-word : goal.invariant-loop-word
-invariant-loop-word l = l.owned ≡ map (λ w. w.now) (take l.word-index l.words)

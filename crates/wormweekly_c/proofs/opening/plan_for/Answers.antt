@@ -1,0 +1,26 @@
+-- one of the texts is no UTF-8, or both are texts
+use Rattle.std.proofs.Common.{ℕ, Bool, true, List, IfErr, sym, subst}
+use Rattle.std.specs.Str.{is_utf8}
+use Rattle.std.proofs.lemmas.Bool.{and_from, and_left, and_right}
+use Rattle.std.proofs.lemmas.Str.{is_utf8-from_IsUtf8}
+use Rattle.wormweekly_c.proofs.Utf8Laws.{not_utf8}
+use Rattle.wormweekly_c.specs.Opening.{HasFault}
+use Rattle.wormweekly_c.specs.Refusing.{IsWhy}
+use Rattle.wormweekly_c.proofs.opening.plan_for.Goals as goal
+
+pub returns-in_default-clause-why : goal.returns-in_default-clause-why
+returns-in_default-clause-why c =
+    and_left (is_utf8 c.args.catalogue.now) (is_utf8 c.args.config.now) (not_utf8 c.args.catalogue.now c.in_default.ensures.cases.0)
+
+pub returns-in_default-from_utf8-clause-why : goal.returns-in_default-from_utf8-clause-why
+returns-in_default-from_utf8-clause-why c =
+    and_right (is_utf8 c.args.catalogue.now) (is_utf8 c.args.config.now) (not_utf8 c.args.config.now c.in_default-from_utf8.ensures.cases.0)
+
+pub returns-clause-why : goal.returns-clause-why
+returns-clause-why c =
+    let catalogue = c.args.catalogue.now in
+    let config = c.args.config.now in
+    subst (λ (are : Bool). IfErr c.plan_of.result (IsWhy are (HasFault catalogue config)))
+    (sym (and_from (is_utf8 catalogue) (is_utf8 config) (is_utf8-from_IsUtf8 catalogue c.in-Ok.ensures.cases.1) (is_utf8-from_IsUtf8 config c.in-Ok-from_utf8.ensures.cases.1)))
+    (subst (λ (text : List ℕ). IfErr c.plan_of.result (IsWhy true (HasFault catalogue text))) c.in-Ok-from_utf8.ensures.cases.0
+    (subst (λ (text : List ℕ). IfErr c.plan_of.result (IsWhy true (HasFault text c.in-Ok-from_utf8.config.now))) c.in-Ok.ensures.cases.0 c.plan_of.ensures.why))

@@ -1,0 +1,127 @@
+//! Collections.
+ghost use Rattle.std.specs.Prelude.{◌≡◌, ◌≢◌, ◌⊎◌, IfOk, OnErr, OnOk};
+ghost use Rattle.wormweekly_c.specs.Codes.{Changes, IsCodeOf, WhereBoth, WhereHeld};
+ghost use Rattle.wormweekly_c.specs.Collections.{Collects, Refuses, text_of};
+ghost use Rattle.wormweekly_c.specs.Texts.{AnswersText};
+
+use crate::codes::{MEMORY, NOT_OPEN, code_of};
+use crate::instrument_handle::InstrumentHandle;
+use crate::reader_handle::ReaderHandle;
+use crate::texts::copy_text;
+use metric_contents::Refusal;
+use metric_hosted::{Hosted, HostedReader};
+use metric_lines::push_batch;
+use std::alloc::{AllocError, Global};
+
+/// Collects an instrument for a reader at a time in nanoseconds (Metrics SDK, collect). The reader keeps the batch.
+#[unsafe(no_mangle)]
+pub extern "C" fn wormweekly_collect(
+    alloc: Global,
+    instrument: &mut InstrumentHandle,
+    reader: &mut ReaderHandle,
+    now: u64,
+) -> u32
+    ensures answer { WhereBoth instrument.old.value reader.old.value (result ≡ 100) (λ h own.
+        IsCodeOf (Refuses h own now) result) }
+    ensures done { let held = instrument.new.value in let own = reader.new.value in
+        result ≡ 0 → Changes instrument.old.value held reader.old.value own (Collects now) }
+    ensures instrument { result ≢ 0 → instrument.new.value ≡ instrument.old.value }
+    ensures reader { result ≢ 0 → reader.new.value ≡ reader.old.value }
+{
+    let Some(mut held) = instrument.take(alloc) else {
+        return NOT_OPEN;
+    };
+    let Some(mut own) = reader.take(alloc) else {
+        instrument.put(held);
+        return NOT_OPEN;
+    };
+    let code = collect_one(alloc, &mut held, &mut own, now);
+    reader.put(own);
+    instrument.put(held);
+    code
+}
+
+fn collect_one(alloc: Global, held: &mut Hosted, own: &mut HostedReader, now: u64) -> u32
+    ensures answer { IsCodeOf (Refuses held.old own.old now) result }
+    ensures done { result ≡ 0 → Collects now held.old held.new own.old own.new }
+    ensures instrument { result ≢ 0 → held.new ≡ held.old }
+    ensures reader { result ≢ 0 → own.new ≡ own.old }
+{
+    let answer = collect_kept(alloc, held, own, now);
+    code_of(&answer)
+}
+
+fn collect_kept(
+    alloc: Global,
+    held: &mut Hosted,
+    own: &mut HostedReader,
+    now: u64,
+) -> Result<(), Refusal>
+    ensures answer { Refuses held.old own.old now result }
+    ensures done { OnOk result (Collects now held.old held.new own.old own.new) }
+    ensures instrument { OnErr result (held.new ≡ held.old) }
+    ensures reader { OnErr result (own.new ≡ own.old) }
+{
+    let HostedReader { plan, seat, last } = own;
+    let batch = held.collect(alloc, plan.get(), seat, now)?;
+    *last = Some(batch);
+    Ok(())
+}
+
+/// Writes the text of the batch that a reader keeps, if there is room for all of it, and its length. It is empty before
+/// a batch. The reader keeps the batch, so the text can be asked for again with more room.
+#[unsafe(no_mangle)]
+pub extern "C" fn wormweekly_text(
+    alloc: Global,
+    reader: &mut ReaderHandle,
+    out: &mut [u8],
+    text_length: &mut usize,
+) -> u32
+    ensures answer { WhereHeld reader.old.value (result ≡ 100) (λ own.
+        AnswersText (text_of own) out.old out.new text_length.new result ⊎ (result ≡ 11)) }
+    ensures reader { reader.new.value ≡ reader.old.value }
+    ensures refused { result ≢ 0 → out.new ≡ out.old }
+    ensures length { result ≢ 0 → result ≢ 102 → text_length.new ≡ text_length.old }
+{
+    let Some(own) = reader.take(alloc) else {
+        return NOT_OPEN;
+    };
+    let code = write_batch_text(alloc, &own, out, text_length);
+    reader.put(own);
+    code
+}
+
+fn write_batch_text(
+    alloc: Global,
+    own: &HostedReader,
+    out: &mut [u8],
+    text_length: &mut usize,
+) -> u32
+    ensures answer { AnswersText (text_of own.now) out.old out.new text_length.new result
+        ⊎ (result ≡ 11) }
+    ensures refused { result ≢ 0 → out.new ≡ out.old }
+    ensures length { result ≢ 0 → result ≢ 102 → text_length.new ≡ text_length.old }
+{
+    match text_of(alloc, own) {
+        Err(_) => MEMORY,
+        Ok(text) => copy_text(text.as_slice(), out, text_length),
+    }
+}
+
+// The text of the batch that a reader keeps.
+fn text_of(alloc: Global, own: &HostedReader) -> Result<Vec<u8>, AllocError>
+    ensures { IfOk result (λ text. text.items ≡ text_of own.now) }
+{
+    let mut text = Vec::new(alloc);
+    if let Some(batch) = &own.last {
+        let plan = own.plan.get();
+        push_batch(
+            &mut text,
+            plan.catalogue(),
+            plan.config(),
+            plan.streams(),
+            batch,
+        )?;
+    }
+    Ok(text)
+}

@@ -1,0 +1,21 @@
+-- the changes are those of the two sides
+use Rattle.std.proofs.Common.{◌∙◌, ap, List}
+use Rattle.metric_views.specs.declared.stream.Stream.{Stream}
+use Rattle.metric_changes.specs.Changes.{plan}
+use Rattle.wormweekly_commands.proofs.Sides.{same_changes}
+use Rattle.wormweekly_commands.proofs.comparing.compared.Goals as goal
+
+pub returns-clause-ok : goal.returns-clause-ok
+returns-clause-ok c =
+    let old = c.in_ok-old.old in
+    let new = c.in_ok-new.new in
+    record {
+      old = c.in_ok-old.ensures.ok;
+      new = c.in_ok-new.ensures.ok;
+      claim = c.in_ok-claim.ensures.ok;
+      changes =
+          c.in_ok-changes.ensures
+          ∙ same_changes _ _ _ _
+          (c.side_of-old_side.ensures ∙ ap (λ (s : List Stream). plan old.declared.catalogue old.declared.config s old.rooms) c.in_ok-old_streams.ensures.list)
+          (c.side_of-new_side.ensures ∙ ap (λ (s : List Stream). plan new.declared.catalogue new.declared.config s new.rooms) c.in_ok-new_streams.ensures.list);
+    }

@@ -1,0 +1,14 @@
+-- The source is fresh and holds the input, so what is promised of a source is promised of these.
+use Rattle.std.proofs.Common.{Some, subst}
+use Rattle.metric_io.specs.Cut.{SourceState}
+use Rattle.metric_kit_commands.specs.Commands.{RunsCommand, sink_run}
+use Rattle.metric_kit_commands.specs.Replaying.{IsEncodedOutput, IsFirstFault, plain_options}
+use Rattle.wormweekly_commands.proofs.replaying.encode_input.Goals as goal
+
+pub returns : goal.returns
+returns g c =
+    let options = plain_options c.args.trial in
+    let P : SourceState → Type 0 = λ s. RunsCommand (IsEncodedOutput (g.E.Encoding.text c.args.encoding.now) options) (IsFirstFault options)
+    (record { input = Some s.rest; counts = s.counts; counts_after = c.replay_encoded.new.source.counts })
+    (sink_run g.W.Sink.contents g.W.Sink.failures c.args.sink.now c.replay_encoded.new.sink) c.replay_encoded.result in
+    record { counts_after = c.replay_encoded.new.source.counts; runs = subst P c.new-source.ensures c.replay_encoded.ensures }

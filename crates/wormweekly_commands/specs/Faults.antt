@@ -1,0 +1,69 @@
+-- Which faults stop a command before it writes, and the exit status of each.
+use Rattle.std.specs.Prelude.{ℕ}
+use Rattle.metric_kit_commands.specs.Faults.{status_of as kit_status}
+use Rattle.metric_kit_commands.specs.declared.fault.KitFault.{KitFault}
+use Rattle.metric_kit_commands.specs.declared.fault.KitFault.TheVariants as kit
+use Rattle.wormweekly_commands.specs.declared.folder.Unread.{Unread}
+use Rattle.wormweekly_commands.specs.declared.folder.Unread.TheVariants as unread
+use Rattle.wormweekly_commands.specs.declared.fault.ConsoleFault.{ConsoleFault}
+use Rattle.wormweekly_commands.specs.declared.fault.ConsoleFault.TheVariants.{Kit, Header, Overwrites, Page}
+use Rattle.wormweekly_commands.specs.declared.fault.ConsoleFault.TheVariants as faults
+use Rattle.wormweekly_commands.specs.declared.fault.PageFault.{PageFault}
+use Rattle.wormweekly_commands.specs.declared.fault.PageFault.TheVariants as pages
+
+-- 4 when out of memory, 1 where the file is a catalogue that is refused, else 3
+abbrev pub unread_status : Unread → ℕ
+unread_status unread.Memory = 4
+unread_status unread.Unexpanded = 1
+unread_status _ = 3
+
+-- 1 where the files have no reader for a page, 2 where the words are wrong
+abbrev pub page_status : PageFault → ℕ
+page_status pages.NoneServed = 1
+page_status (pages.Exposure fault) = 1
+page_status _ = 2
+
+-- The status of a fault of `metric_kit` is that of `metric_kit`.
+abbrev pub status_of : ConsoleFault → ℕ
+status_of (faults.Unread role cause) = unread_status cause
+status_of (Overwrites role) = 2
+status_of (faults.Unwritten cause) = 5
+status_of (Header role) = 3
+status_of (Page fault) = page_status fault
+status_of (faults.Old fault) = kit_status fault
+status_of (Kit fault) = kit_status fault
+
+abbrev pub IsUnread : ConsoleFault → Type 0
+IsUnread (faults.Unread role cause) = Unit {0}
+IsUnread _ = ⊥
+
+-- The sink failed, or memory ran out.
+abbrev pub IsDeviceFault : KitFault → Type 0
+IsDeviceFault kit.Write = Unit {0}
+IsDeviceFault kit.Memory = Unit {0}
+IsDeviceFault _ = ⊥
+
+-- The sink failed, the file was not made, or memory ran out.
+abbrev pub IsDeliveryFault : ConsoleFault → Type 0
+IsDeliveryFault (faults.Unread role cause) = ⊥
+IsDeliveryFault (Overwrites role) = ⊥
+IsDeliveryFault (faults.Unwritten cause) = Unit {0}
+IsDeliveryFault (Header role) = ⊥
+IsDeliveryFault (Page fault) = ⊥
+IsDeliveryFault (faults.Old fault) = ⊥
+IsDeliveryFault (Kit fault) = IsDeviceFault fault
+
+-- The fault is not of a device: what was asked for is refused.
+abbrev pub IsRefused : KitFault → Type 0
+IsRefused kit.Write = ⊥
+IsRefused kit.Memory = ⊥
+IsRefused _ = Unit {0}
+
+abbrev pub IsRefusal : ConsoleFault → Type 0
+IsRefusal (faults.Unread role cause) = Unit {0}
+IsRefusal (Overwrites role) = Unit {0}
+IsRefusal (faults.Unwritten cause) = ⊥
+IsRefusal (Header role) = Unit {0}
+IsRefusal (Page fault) = Unit {0}
+IsRefusal (faults.Old fault) = Unit {0}
+IsRefusal (Kit fault) = IsRefused fault

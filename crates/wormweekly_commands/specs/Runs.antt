@@ -1,0 +1,314 @@
+-- What running a request does.
+use Rattle.std.specs.Prelude.{◌≡◌, ◌≢◌, ◌⊎◌, ℕ, Bool, true, not, List, Option, Some, None, Result, Ok}
+use Rattle.std.specs.Prelude.{Err, IfErr, IfOk, IfSome, IsErr, IsErrAnd, IsSomeAnd, OnErr, is_some, string_bytes}
+use Rattle.metric_short.specs.declared.fault.ShortFault.{ShortFault}
+use Rattle.metric_short.specs.declared.fault.ShortFault.TheVariants as short
+use Rattle.metric_short.specs.Expansions.{IsExpansion, expansion_of}
+use Rattle.metric_parts.specs.declared.parts.Parts.{Parts}
+use Rattle.metric_command_lines.specs.declared.wormweekly.request.Files.{Files}
+use Rattle.metric_command_lines.specs.declared.wormweekly.request.Request.{Request}
+use Rattle.metric_command_lines.specs.declared.wormweekly.request.Task.{Task}
+use Rattle.metric_command_lines.specs.declared.wormweekly.request.Task.TheVariants.{Replay, Diff, Draw, Expand}
+use Rattle.metric_command_lines.specs.declared.wormweekly.request.Task.TheVariants as tasks
+use Rattle.metric_exposition.specs.declared.dialect.Dialect.{Dialect}
+use Rattle.metric_kit_commands.specs.Commands.{SinkRun}
+use Rattle.metric_kit_commands.specs.declared.fault.KitFault.TheVariants.{Memory}
+use Rattle.wormweekly_commands.specs.Answers.{IsAnswer, IsAnswerFault}
+use Rattle.wormweekly_commands.specs.Comparing.{RunsDiff}
+use Rattle.wormweekly_commands.specs.Delivered.{IsDelivered, IsDeliveredAnswer, answer_status}
+use Rattle.wormweekly_commands.specs.Drawing.{IsDrawing}
+use Rattle.wormweekly_commands.specs.Faults.{IsDeviceFault, IsRefusal, status_of}
+use Rattle.wormweekly_commands.specs.Folders.{MadeFile}
+use Rattle.wormweekly_commands.specs.Inputs.{IsReplayIn, input_of}
+use Rattle.wormweekly_commands.specs.Paging.{ReplaysPage, dialect_of}
+use Rattle.wormweekly_commands.specs.Readings.{AreTexts, IsHeld}
+use Rattle.wormweekly_commands.specs.Reporting.{IsReport, RefusesReport}
+use Rattle.wormweekly_commands.specs.declared.answer.Answer.{Answer}
+use Rattle.wormweekly_commands.specs.declared.drawing.Drawing.{Drawing}
+use Rattle.wormweekly_commands.specs.declared.fault.ConsoleFault.{ConsoleFault}
+use Rattle.wormweekly_commands.specs.declared.fault.ConsoleFault.TheVariants.{Unread, Header, Kit, Page}
+use Rattle.wormweekly_commands.specs.declared.fault.ConsoleFault.TheVariants.{Overwrites, Unwritten}
+use Rattle.wormweekly_commands.specs.declared.fault.ConsoleFault.TheVariants as faults
+use Rattle.wormweekly_commands.specs.declared.fault.Role.{Role}
+use Rattle.wormweekly_commands.specs.declared.fault.Role.TheVariants.{Catalogue, Config, OldCatalogue, OldConfig}
+use Rattle.wormweekly_commands.specs.declared.parts.Texts.{Texts}
+use Rattle.wormweekly_commands.specs.declared.report.Report.{Report}
+
+-- The files that a folder has made, and the bytes that a sink holds, before and after.
+pub record Writing : Type 0 where
+  pub made : Option (List MadeFile)
+  pub made_after : Option (List MadeFile)
+  pub contents : Option (List ℕ)
+  pub contents_after : Option (List ℕ)
+
+abbrev pub writing : {F W : Type 0} → (F → Option (List MadeFile)) → (W → Option (List ℕ)) → F → F
+    → W → W → Writing
+writing made contents folder folder_after sink sink_after = record {
+  made = made folder;
+  made_after = made folder_after;
+  contents = contents sink;
+  contents_after = contents sink_after;
+}
+
+-- The answer that is due of the parts is written where the request wants it,
+-- and the status is the answer's.
+pub record Answers (request : Request) (parts : Parts) (writing : Writing) (status : ℕ)
+    : Type 0 where
+  pub answer : Answer
+  pub is_answer : IsAnswer request.task request parts answer
+  pub delivered : IsDeliveredAnswer request.files.output answer writing.made writing.made_after
+      writing.contents writing.contents_after
+  pub is_status : status ≡ answer_status request answer
+
+-- A fault is of a device, or the first that the parts have, or a
+-- certificate is not there to be checked.
+abbrev pub RefusesFor : Task → Parts → ConsoleFault → Type 0
+RefusesFor task parts (Unread role cause) = parts.certificate ≡ None
+RefusesFor task parts (Overwrites role) = ⊥
+RefusesFor task parts (Unwritten cause) = Unit {0}
+RefusesFor task parts (Header role) = ⊥
+RefusesFor task parts (Page fault) = ⊥
+RefusesFor task parts (faults.Old fault) = ⊥
+RefusesFor task parts (Kit fault) = IsDeviceFault fault ⊎ IsAnswerFault task fault parts
+
+-- What a replay of an input comes to in the form that is asked for, which is no page.
+abbrev pub EndsPlain : Request → Bool → List ℕ → SinkRun → Result (Unit {0}) ConsoleFault → Type 0
+EndsPlain request trial input sink (Ok done) =
+    IsReplayIn request.options.form request.resource trial request.options.audit input sink (Ok tt)
+EndsPlain request trial input sink (Err (Kit fault)) =
+    IsReplayIn request.options.form request.resource trial request.options.audit input sink
+    (Err fault)
+EndsPlain request trial input sink (Err _) = ⊥
+
+-- The same of a page, and of any other form.
+abbrev pub EndsAs : Option Dialect → Request → Parts → Bool → List ℕ → SinkRun
+    → Result (Unit {0}) ConsoleFault → Type 0
+EndsAs (Some dialect) request parts trial input sink result =
+    ReplaysPage request parts dialect trial input sink result
+EndsAs None request parts trial input sink result = EndsPlain request trial input sink result
+
+-- In the form that is asked for: a trial, where there is no certificate.
+abbrev pub IsReplayEnd : Request → Parts → List ℕ → SinkRun → Result (Unit {0}) ConsoleFault
+    → Type 0
+IsReplayEnd request parts input sink result =
+    EndsAs (dialect_of request.options.form) request parts (not (is_some parts.certificate))
+    input sink result
+
+-- an end without its status
+abbrev pub done_of : Result ℕ ConsoleFault → Result (Unit {0}) ConsoleFault
+done_of (Ok status) = Ok tt
+done_of (Err fault) = Err fault
+
+-- A file has the header of a part, or memory ran out.
+abbrev pub IsStopped : Result ℕ ConsoleFault → Type 0
+IsStopped (Ok status) = ⊥
+IsStopped (Err (Header role)) = Unit {0}
+IsStopped (Err (Kit Memory)) = Unit {0}
+IsStopped (Err _) = ⊥
+
+-- The replay of the input that the files make up with a script, and its status.
+pub record EndsScript (request : Request) (parts : Parts) (script : List ℕ) (sink : SinkRun)
+    (end : Result ℕ ConsoleFault) : Type 0 where
+  pub status : IfOk end (λ status. status ≡ 0)
+  pub ends : IsReplayEnd request parts
+      (input_of parts.catalogue parts.config parts.certificate script) sink (done_of end)
+
+-- It is stopped before it begins, or comes to its end.
+abbrev pub ReplaysScript : Request → Parts → List ℕ → SinkRun → Result ℕ ConsoleFault → Type 0
+ReplaysScript request parts script sink end =
+    (IsStopped end × (sink.contents_after ≡ sink.contents))
+    ⊎ EndsScript request parts script sink end
+
+-- Nothing is written where there is no script.
+abbrev pub ReplaysText : Request → Parts → Option (List ℕ) → SinkRun → Result ℕ ConsoleFault
+    → Type 0
+ReplaysText request parts None sink result = IsErr result × (sink.contents_after ≡ sink.contents)
+ReplaysText request parts (Some script) sink result =
+    ReplaysScript request parts script sink result
+
+abbrev pub Replays : Request → Texts → SinkRun → Result ℕ ConsoleFault → Type 0
+Replays request texts sink result = ReplaysText request texts.parts texts.script sink result
+
+-- Nothing was made and nothing written.
+abbrev pub IsUntouched : Writing → Type 0
+IsUntouched writing =
+    (writing.made_after ≡ writing.made) × (writing.contents_after ≡ writing.contents)
+
+-- An answer is written, or the command refused; where it is refused,
+-- nothing is made and nothing written.
+pub record RunsAnswer (request : Request) (parts : Parts) (writing : Writing)
+    (end : Result ℕ ConsoleFault) : Type 0 where
+  pub ok : IfOk end (Answers request parts writing)
+  pub first : IfErr end (RefusesFor request.task parts)
+  pub untouched : IfErr end (λ fault. IsRefusal fault → IsUntouched writing)
+  pub unmade : OnErr end (writing.made_after ≡ writing.made)
+
+-- A report is written whole and once.
+pub record Reports (request : Request) (texts : Texts) (writing : Writing) (status : ℕ)
+    : Type 0 where
+  pub report : Report
+  pub is_report : IsReport request texts report
+  pub page : List ℕ
+  pub delivered : IsDelivered request.files.output page writing.made writing.made_after
+      writing.contents writing.contents_after
+  pub is_status : status ≡ 0
+
+-- A report is written, or refused; where it is refused, nothing is made and nothing written.
+pub record RunsReport (request : Request) (texts : Texts) (writing : Writing)
+    (end : Result ℕ ConsoleFault) : Type 0 where
+  pub ok : IfOk end (Reports request texts writing)
+  pub first : IfErr end (RefusesReport texts)
+  pub untouched : IfErr end (λ fault. IsRefusal fault → IsUntouched writing)
+  pub unmade : OnErr end (writing.made_after ≡ writing.made)
+
+-- A picture is written whole and once.
+pub record Draws (request : Request) (texts : Texts) (writing : Writing) (status : ℕ)
+    : Type 0 where
+  pub drawing : Drawing
+  pub is_drawing : IsDrawing texts drawing
+  pub delivered : IsDelivered request.files.output (string_bytes drawing.picture) writing.made
+      writing.made_after writing.contents writing.contents_after
+  pub is_status : status ≡ 0
+
+-- A picture is written, or refused; where it is refused, nothing is made and nothing written.
+pub record RunsDraw (request : Request) (texts : Texts) (writing : Writing)
+    (end : Result ℕ ConsoleFault) : Type 0 where
+  pub ok : IfOk end (Draws request texts writing)
+  pub first : IfErr end (RefusesReport texts)
+  pub untouched : IfErr end (λ fault. IsRefusal fault → IsUntouched writing)
+  pub unmade : OnErr end (writing.made_after ≡ writing.made)
+
+-- A replay is run, a comparison made, a report or a picture written, and each other command answered.
+pub record RunsTexts (request : Request) (texts : Texts) (writing : Writing) (sink : SinkRun)
+    (end : Result ℕ ConsoleFault) : Type 0 where
+  pub replayed : request.task ≡ Replay
+      → Replays request texts sink end × (writing.made_after ≡ writing.made)
+  pub compared : request.task ≡ Diff
+      → RunsDiff request texts writing.contents writing.contents_after end
+      × (writing.made_after ≡ writing.made)
+  pub reported : request.task ≡ tasks.Report → RunsReport request texts writing end
+  pub drawn : request.task ≡ Draw → RunsDraw request texts writing end
+  pub answered : request.task ≢ Replay → request.task ≢ Diff → request.task ≢ tasks.Report
+      → request.task ≢ Draw → RunsAnswer request texts.parts writing end
+
+-- The texts of the files, with what running the command on them comes to.
+pub record RunsRead (held : List ℕ → Option (List ℕ)) (request : Request) (writing : Writing)
+    (sink : SinkRun) (end : Result ℕ ConsoleFault) : Type 0 where
+  pub texts : Texts
+  pub are_texts : AreTexts held request.files texts
+  pub runs : RunsTexts request texts writing sink end
+
+-- Two paths lead to one file, as far as the folder knows.
+abbrev pub IsOneFile : (List ℕ → List ℕ → Option Bool) → List ℕ → List ℕ → Type 0
+IsOneFile same output path = IfSome (same output path) (λ known. known ≡ true)
+
+-- A path leads to an old file of this role.
+abbrev pub IsOld : (List ℕ → List ℕ → Option Bool) → List ℕ → Files → Role → Type 0
+IsOld same output files OldCatalogue = IsSomeAnd files.old_catalogue (IsOneFile same output)
+IsOld same output files OldConfig = IsSomeAnd files.old_config (IsOneFile same output)
+IsOld same output files _ = ⊥
+
+-- A path leads to the file of a role that is read.
+abbrev pub IsInput : (List ℕ → List ℕ → Option Bool) → List ℕ → Files → Role → Type 0
+IsInput same output files Catalogue = IsOneFile same output files.catalogue
+IsInput same output files Config = IsOneFile same output files.config
+IsInput same output files role = IsOld same output files role
+
+-- The output is that file, as far as the folder knows.
+abbrev pub IsOverwriting : (List ℕ → List ℕ → Option Bool) → Files → Role → Type 0
+IsOverwriting same files role = IsSomeAnd files.output (λ path. IsInput same path files role)
+
+-- A path is that of an old file.
+abbrev pub NamesOld : List ℕ → Files → Type 0
+NamesOld output files =
+    IsSomeAnd files.old_catalogue (λ path. path ≡ output)
+    ⊎ IsSomeAnd files.old_config (λ path. path ≡ output)
+
+-- The path of the output is that of a file that is read.
+abbrev pub NamesInput : Files → Type 0
+NamesInput files = IsSomeAnd files.output
+    (λ path. (path ≡ files.catalogue) ⊎ ((path ≡ files.config) ⊎ NamesOld path files))
+
+-- The output is a file that is read, or a file cannot be read.
+abbrev pub IsUnstarted : (List ℕ → List ℕ → Option Bool) → Files → ConsoleFault → Type 0
+IsUnstarted same files (Overwrites role) = IsOverwriting same files role
+IsUnstarted same files (Unread role cause) = Unit {0}
+IsUnstarted same files _ = ⊥
+
+-- What a folder knows: the texts of files, and whether two paths lead to one.
+pub record Known : Type 0 where
+  pub held : List ℕ → Option (List ℕ)
+  pub same : List ℕ → List ℕ → Option Bool
+
+abbrev pub known_by : {F : Type 0} → (F → List ℕ → Option (List ℕ))
+    → (F → List ℕ → List ℕ → Option Bool) → F → Known
+known_by held same folder = record { held = held folder; same = same folder }
+
+-- The command does not start, and nothing is made or written; or it runs on the texts of the files,
+-- and the path of its output is that of none.
+abbrev pub RunsFiles : Known → Request → Writing → SinkRun → Result ℕ ConsoleFault → Type 0
+RunsFiles known request writing sink end =
+    (IsErrAnd end (IsUnstarted known.same request.files) × IsUntouched writing)
+    ⊎ ((NamesInput request.files → ⊥) × RunsRead known.held request writing sink end)
+
+-- the exit status of how a command ends
+abbrev pub exit_of : Result ℕ ConsoleFault → ℕ
+exit_of (Ok status) = status
+exit_of (Err fault) = status_of fault
+
+-- A command is run on its files, and its end is told by the exit status.
+pub record RunsCommand (known : Known) (request : Request) (writing : Writing)
+    (sink : SinkRun) (status : ℕ) : Type 0 where
+  pub end : Result ℕ ConsoleFault
+  pub runs : RunsFiles known request writing sink end
+  pub is_status : status ≡ exit_of end
+
+-- The catalogue that the file is of format 3 is expanded, and the expansion written.
+pub record IsExpanded (known : Known) (files : Files) (writing : Writing) : Type 0 where
+  pub source : List ℕ
+  pub printed : List ℕ
+  pub is_held : IsHeld known.held files.catalogue source
+  pub is_expansion : IsExpansion source printed
+  pub delivered : IsDelivered files.output printed writing.made writing.made_after
+      writing.contents writing.contents_after
+  pub apart : IsSomeAnd files.output (λ path. path ≡ files.catalogue) → ⊥
+
+-- The first fault of the catalogue that the file is.
+pub record IsUnexpanded (known : Known) (files : Files) (fault : ShortFault) : Type 0 where
+  pub source : List ℕ
+  pub is_held : IsHeld known.held files.catalogue source
+  pub first : fault ≢ short.Memory → expansion_of source ≡ Err fault
+
+-- 4 when out of memory, else 1
+abbrev pub short_status : ShortFault → ℕ
+short_status short.Memory = 4
+short_status _ = 1
+
+-- The catalogue is refused by its first fault, and nothing is written.
+pub record RefusesShort (known : Known) (files : Files) (writing : Writing) (status : ℕ) : Type 0 where
+  pub fault : ShortFault
+  pub is_unexpanded : IsUnexpanded known files fault
+  pub untouched : IsUntouched writing
+  pub is_status : status ≡ short_status fault
+
+-- A file cannot be read or written.
+pub record StopsExpansion (writing : Writing) (status : ℕ) : Type 0 where
+  pub fault : ConsoleFault
+  pub unmade : writing.made_after ≡ writing.made
+  pub untouched : IsRefusal fault → IsUntouched writing
+  pub is_status : status ≡ status_of fault
+
+-- # what expanding does (profile) [ExpandsFile]
+-- The expansion is written; or the catalogue is refused by its first fault, and nothing is written; or a file is not
+-- read or not written. The exit status says which.
+abbrev pub ExpandsFile : Known → Files → Writing → ℕ → Type 0
+ExpandsFile known files writing status =
+    ((status ≡ 0) × IsExpanded known files writing)
+    ⊎ (RefusesShort known files writing status ⊎ StopsExpansion writing status)
+
+-- # what running a request does (profile)
+-- A catalogue is expanded, or another command run, and the end is told by the exit status.
+pub record RunsRequest (known : Known) (request : Request) (writing : Writing)
+    (sink : SinkRun) (status : ℕ) : Type 0 where
+  pub expanded : request.task ≡ Expand → ExpandsFile known request.files writing status
+  pub commanded : request.task ≢ Expand → RunsCommand known request writing sink status

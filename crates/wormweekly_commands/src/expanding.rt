@@ -1,0 +1,125 @@
+//! The command that expands a catalogue of format 3.
+ghost use Rattle.std.specs.Prelude.{◌≡◌, ◌≢◌, Err, IfOk, IsSomeAnd, OnErr, OnOk, false};
+ghost use Rattle.metric_short.specs.Expansions.{expansion_of};
+ghost use Rattle.wormweekly_commands.specs.Readings.{IsHeld};
+ghost use Rattle.wormweekly_commands.specs.Runs.{ExpandsFile, IsUnexpanded, known_by, short_status, writing};
+
+use crate::delivering::{print, put};
+use crate::fault::{ConsoleFault, Role};
+use crate::folder::Folder;
+use crate::parts::text_at;
+use crate::shown_path::shown;
+use crate::telling::{source_of, spelled, stop};
+use metric_base::Text;
+use metric_catalogue::CatalogueFault;
+use metric_command_lines::{Files, Request};
+use metric_diagnosis::diagnose_catalogue;
+use metric_io::Sink;
+use metric_short::{ShortFault, expand, told};
+use std::alloc::{AllocError, Global};
+
+/// Expands the catalogue of a request, writes the expansion where the request wants it, and tells on `errors` why it
+/// stops. The exit status.
+pub(crate) fn run_expand<F: Folder, W: Sink, E: Sink>(
+    alloc: Global,
+    request: &Request,
+    folder: &mut F,
+    sink: &mut W,
+    errors: &mut E,
+) -> u8
+    ensures { ExpandsFile (known_by F.held F.same folder.old) request.now.files
+        (writing F.made W.contents folder.old folder.new sink.old sink.new) result }
+{
+    match catalogue_of(alloc, folder, &request.files) {
+        Ok(source) => expand_source(alloc, request, &source, folder, sink, errors),
+        Err(fault) => stop(alloc, request, None, fault, errors),
+    }
+}
+
+// The text of the catalogue, unless the file to write to is the same.
+fn catalogue_of<F: Folder>(alloc: Global, folder: &F, files: &Files) -> Result<Text, ConsoleFault>
+    ensures read { IfOk result (IsHeld (F.held folder.now) files.now.catalogue) }
+    ensures apart { OnOk result
+        (IsSomeAnd files.now.output (λ path. path ≡ files.now.catalogue) → ⊥) }
+{
+    if is_overwriting(folder, files) {
+        return Err(ConsoleFault::Overwrites {
+            role: Role::Catalogue,
+        });
+    }
+    text_at(alloc, folder, &files.catalogue, Role::Catalogue)
+}
+
+fn is_overwriting<F: Folder>(folder: &F, files: &Files) -> bool
+    ensures { result ≡ false
+        → IsSomeAnd files.now.output (λ path. path ≡ files.now.catalogue) → ⊥ }
+{
+    match &files.output {
+        Some(output) => folder.is_same(output.as_str(), files.catalogue.as_str()),
+        None => false,
+    }
+}
+
+// Expands a catalogue that was read.
+fn expand_source<F: Folder, W: Sink, E: Sink>(
+    alloc: Global,
+    request: &Request,
+    source: &Text,
+    folder: &mut F,
+    sink: &mut W,
+    errors: &mut E,
+) -> u8
+    requires read { IsHeld (F.held folder.old) request.now.files.catalogue source.now }
+    requires apart { IsSomeAnd request.now.files.output (λ path. path ≡ request.now.files.catalogue)
+        → ⊥ }
+    ensures { ExpandsFile (known_by F.held F.same folder.old) request.now.files
+        (writing F.made W.contents folder.old folder.new sink.old sink.new) result }
+{
+    match expand(alloc, source.as_str()) {
+        Ok(printed) => {
+            match put(&request.files.output, printed.as_bytes(), folder, sink) {
+                Ok(()) => 0,
+                Err(fault) => stop(alloc, request, None, fault, errors),
+            }
+        }
+        Err(fault) => stop_short(alloc, &request.files, source, fault, errors),
+    }
+}
+
+// Tells why a catalogue is not expanded, and gives the exit status, which stands whatever becomes of the telling.
+fn stop_short<E: Sink>(
+    alloc: Global,
+    files: &Files,
+    source: &Text,
+    fault: ShortFault,
+    errors: &mut E,
+) -> u8
+    ensures { result ≡ short_status fault }
+{
+    let _told = match told_short(alloc, files, source, fault) {
+        Ok(text) => print(errors, text.as_str()),
+        Err(_) => print(errors, "memory was refused\n"),
+    };
+    match fault {
+        ShortFault::Memory => 4,
+        _ => 1,
+    }
+}
+
+fn told_short(
+    alloc: Global,
+    files: &Files,
+    source: &Text,
+    fault: ShortFault,
+) -> Result<String, AllocError> {
+    if fault == ShortFault::NotToml {
+        let source = source_of(&files.catalogue, source);
+        return spelled(
+            alloc,
+            diagnose_catalogue(alloc, source, CatalogueFault::NotToml),
+        );
+    }
+    let path = shown(files.catalogue.as_str());
+    let words = told(alloc, source.as_str(), fault)?;
+    format!(in alloc; "{path}: {words}\n")
+}

@@ -1,0 +1,248 @@
+//! A script replayed, of which the page of a reader is printed.
+ghost use Rattle.std.specs.Prelude.{◌≡◌, ◌≤◌, IfOk, Ok, length};
+ghost use Rattle.metric_kit_commands.specs.Commands.{sink_run};
+ghost use Rattle.metric_exposition.specs.Pages.{end_text};
+ghost use Rattle.metric_exposition.specs.TargetFaults.{target_check};
+ghost use Rattle.metric_exposition.specs.Targets.{target_text};
+ghost use Rattle.wormweekly_commands.specs.Paging.{IsHead, IsPageEnd, IsPageReplay, IsReaderFound, IsReaderRead, ReplaysPage};
+ghost use Rattle.wormweekly_commands.specs.PageReaders.{reader_asked};
+ghost use Rattle.wormweekly_commands.specs.Paging.{dialect_of, exposed, exposed_by, of_target, page_reader};
+
+use crate::fault::{ConsoleFault, PageFault};
+use crate::page_readers::reader_asked;
+use metric_base::{Items, Text};
+use metric_catalogue::Catalogue;
+use metric_command_lines::{Form, Request};
+use metric_export::Encoding;
+use metric_exposition::{Dialect, TargetFault, push_end, push_exposition, push_target};
+use metric_exposure::{ExposureFault, Outlet, exposure_faults};
+use metric_history::Batch;
+use metric_io::{CutSource, Sink};
+use metric_kit_commands::{KitFault, PageForm, declared_of, replay_page};
+use metric_parts::Parts;
+use metric_plan::Plan;
+use metric_resolve::resolve_streams;
+use metric_resource::Resource;
+use metric_views::{Config, Reader, Stream};
+use std::alloc::{AllocError, Global};
+
+/// The format of the page that a form is, where it is one.
+pub(crate) fn dialect_of(form: Form) -> Option<Dialect>
+    ensures { result ≡ dialect_of form }
+{
+    match form {
+        Form::Replies | Form::OtlpLines | Form::OtlpBytes => None,
+        Form::Prometheus => Some(Dialect::Text),
+        Form::OpenMetrics => Some(Dialect::OpenMetrics),
+        Form::OpenMetricsCreated => Some(Dialect::OpenMetricsCreated),
+    }
+}
+
+// How a batch is written in a page.
+#[derive(Clone, Copy)]
+struct Lines {
+    dialect: Dialect,
+}
+
+impl Encoding for Lines {
+    ghost use Rattle.wormweekly_commands.specs.PageLines.{lines_text};
+
+    ghost text = { lines_text };
+
+    fn push(
+        &self,
+        alloc: Global,
+        out: &mut Vec<u8>,
+        plan: &Plan,
+        batch: &Batch,
+    ) -> Result<(), AllocError> {
+        let (catalogue, streams) = (plan.catalogue(), plan.streams());
+        push_exposition(alloc, out, self.dialect, catalogue, streams, batch)
+    }
+}
+
+/// Replays an input of parts, and prints the page of what a reader collected last of each instrument, with the
+/// attributes of the resource. A replay is refused before it begins where these can't be the labels of one line, where
+/// the reader is not known, and where a server would not hold each sample of it.
+pub(crate) fn replay_as_page<W: Sink>(
+    alloc: Global,
+    request: &Request,
+    dialect: Dialect,
+    parts: &Parts<'_>,
+    trial: bool,
+    input: &[u8],
+    sink: &mut W,
+) -> Result<(), ConsoleFault>
+    ensures { ReplaysPage request.now parts.now dialect trial input.now
+        (sink_run W.contents W.failures sink.old sink.new) result }
+{
+    match head_of(alloc, dialect, &request.resource) {
+        Ok(head) => {
+            let head = head.as_slice();
+            replay_behind(alloc, request, dialect, head, parts, trial, input, sink)
+        }
+        Err(fault) => Err(fault),
+    }
+}
+
+// The same behind what a page of the resource begins with.
+fn replay_behind<W: Sink>(
+    alloc: Global,
+    request: &Request,
+    dialect: Dialect,
+    head: &[u8],
+    parts: &Parts<'_>,
+    trial: bool,
+    input: &[u8],
+    sink: &mut W,
+) -> Result<(), ConsoleFault>
+    requires labelled { target_check request.now.resource ≡ Ok tt }
+    requires head { head.now ≡ target_text dialect request.now.resource }
+    ensures { ReplaysPage request.now parts.now dialect trial input.now
+        (sink_run W.contents W.failures sink.old sink.new) result }
+{
+    match reader_of(alloc, &request.reader, parts) {
+        Ok(reader) => replay_of(alloc, dialect, head, reader, trial, input, sink),
+        Err(fault) => Err(fault),
+    }
+}
+
+// The same of a reader.
+fn replay_of<W: Sink>(
+    alloc: Global,
+    dialect: Dialect,
+    head: &[u8],
+    reader: u32,
+    trial: bool,
+    input: &[u8],
+    sink: &mut W,
+) -> Result<(), ConsoleFault>
+    ensures { IsPageEnd dialect reader head.now trial input.now
+        (sink_run W.contents W.failures sink.old sink.new) result }
+{
+    let tail = tail_of(alloc, dialect)?;
+    let form = PageForm {
+        head,
+        reader,
+        encoding: &Lines { dialect },
+        tail: &tail,
+    };
+    print_page(alloc, trial, &form, input, sink)?;
+    Ok(())
+}
+
+// What a page of a resource begins with.
+fn head_of(alloc: Global, dialect: Dialect, resource: &Resource) -> Result<Items<u8>, ConsoleFault>
+    ensures { IsHead dialect resource.now result }
+{
+    let mut head = Vec::new(alloc);
+    match push_target(alloc, &mut head, dialect, resource) {
+        Ok(()) => Ok(Items::from_vec(head)),
+        Err(fault) => Err(of_target(fault)),
+    }
+}
+
+// A fault of a target, as one of the console.
+fn of_target(fault: TargetFault) -> ConsoleFault
+    ensures { result ≡ of_target fault }
+{
+    match fault {
+        TargetFault::BadLabel { attribute } => {
+            ConsoleFault::Page(PageFault::BadLabel { attribute })
+        }
+        TargetFault::LabelCollision { attribute, other } => {
+            ConsoleFault::Page(PageFault::LabelCollision { attribute, other })
+        }
+        TargetFault::Memory => ConsoleFault::Kit(KitFault::Memory),
+    }
+}
+
+// What a page ends with.
+fn tail_of(alloc: Global, dialect: Dialect) -> Result<Vec<u8>, AllocError>
+    ensures { IfOk result (λ tail. tail.items ≡ end_text dialect) }
+{
+    let mut tail = Vec::new(alloc);
+    push_end(&mut tail, dialect)?;
+    Ok(tail)
+}
+
+// The number of the reader whose page is asked for.
+fn reader_of(alloc: Global, name: &Option<Text>, parts: &Parts<'_>) -> Result<u32, ConsoleFault>
+    ensures { IsReaderRead name.now parts.now result }
+{
+    let declared = declared_of(alloc, parts)?;
+    page_reader(alloc, name, &declared.catalogue, &declared.config)
+}
+
+// The same of what the parts declare.
+fn page_reader(
+    alloc: Global,
+    name: &Option<Text>,
+    catalogue: &Catalogue,
+    config: &Config,
+) -> Result<u32, ConsoleFault>
+    ensures { IsReaderFound (page_reader name.now catalogue.now config.now) result }
+{
+    let streams = resolve_streams(alloc, catalogue, config)?;
+    reader_in(alloc, name, catalogue, config.readers(), streams.as_slice())
+}
+
+// The same of the streams of all readers.
+fn reader_in(
+    alloc: Global,
+    name: &Option<Text>,
+    catalogue: &Catalogue,
+    readers: &[Reader],
+    streams: &[Stream],
+) -> Result<u32, ConsoleFault>
+    requires { length readers.now ≤ 16 }
+    ensures { IsReaderFound (exposed catalogue.now streams.now
+        (reader_asked name.now readers.now streams.now)) result }
+{
+    match reader_asked(name, readers, streams) {
+        Ok(reader) => exposed(alloc, catalogue, streams, reader),
+        Err(fault) => Err(ConsoleFault::Page(fault)),
+    }
+}
+
+// The reader, where its streams can stand in a page.
+fn exposed(
+    alloc: Global,
+    catalogue: &Catalogue,
+    streams: &[Stream],
+    reader: u32,
+) -> Result<u32, ConsoleFault>
+    ensures { IsReaderFound (exposed catalogue.now streams.now (Ok reader)) result }
+{
+    let faults = exposure_faults(alloc, catalogue, streams, reader, Outlet::Prometheus)?;
+    match exposed_by(faults.as_slice(), reader) {
+        Ok(reader) => Ok(reader),
+        Err(fault) => Err(ConsoleFault::Page(fault)),
+    }
+}
+
+// The reader, where there is no fault, else the first.
+fn exposed_by(faults: &[ExposureFault], reader: u32) -> Result<u32, PageFault>
+    ensures { result ≡ exposed_by faults.now reader }
+{
+    match faults.first() {
+        None => Ok(reader),
+        Some(fault) => Err(PageFault::Exposure(*fault)),
+    }
+}
+
+// Replays an input of parts, and prints a page.
+fn print_page<W: Sink>(
+    alloc: Global,
+    trial: bool,
+    form: &PageForm<'_, Lines>,
+    input: &[u8],
+    sink: &mut W,
+) -> Result<(), KitFault>
+    ensures { IsPageReplay form.now.encoding.now.dialect form.now.reader form.now.head.now
+        form.now.tail.now trial input.now
+        (sink_run W.contents W.failures sink.old sink.new) result }
+{
+    let mut source = CutSource::new(input, None);
+    replay_page(alloc, trial, form, &mut source, sink)
+}

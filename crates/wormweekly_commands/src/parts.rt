@@ -1,0 +1,181 @@
+//! The texts of a request's files.
+ghost use Rattle.std.specs.Prelude.{◌≡◌, IfOk, IfErr};
+ghost use Rattle.wormweekly_commands.specs.Readings.{AreOld, ArePair, AreTexts, IsHeld, IsMeant, MayBeHeld};
+ghost use Rattle.wormweekly_commands.specs.Faults.{IsUnread};
+
+use crate::fault::{ConsoleFault, Role};
+use crate::folder::{Folder, Unread};
+use crate::shown_path::shown;
+use metric_base::Text;
+use metric_command_lines::Files;
+use metric_parts::Parts;
+use metric_short::{ShortFault, in_full};
+use std::alloc::{AllocError, Global};
+
+/// The texts of a request's files: the old parts of a comparison, the parts that a command reads, and the script.
+pub(crate) struct Texts {
+    // The name of the catalogue's file, which says where its text is an expansion.
+    pub name: Text,
+    pub old: Option<Parts<'static>>,
+    pub parts: Parts<'static>,
+    pub script: Option<Text>,
+}
+
+impl Drop for Texts {
+    fn drop(self) {
+        let Texts {
+            old: _old,
+            name: _name,
+            parts: _parts,
+            script: _script,
+        } = self;
+    }
+}
+
+/// Reads the files of a request, in the order of the words, up to the first that cannot be read.
+pub(crate) fn texts_of<F: Folder>(
+    alloc: Global,
+    folder: &F,
+    files: &Files,
+) -> Result<Texts, ConsoleFault>
+    ensures texts { IfOk result (AreTexts (F.held folder.now) files.now) }
+    ensures unread { IfErr result IsUnread }
+{
+    let old = old_parts(alloc, folder, files)?;
+    let Named {
+        text: catalogue,
+        name,
+    } = catalogue_at(alloc, folder, &files.catalogue, Role::Catalogue)?;
+    let config = text_at(alloc, folder, &files.config, Role::Config)?;
+    let certificate = optional_text(alloc, folder, &files.certificate, Role::Certificate)?;
+    let script = optional_text(alloc, folder, &files.script, Role::Script)?;
+    let parts = Parts {
+        catalogue,
+        config,
+        certificate,
+        script: None,
+    };
+    Ok(Texts {
+        name,
+        old,
+        parts,
+        script,
+    })
+}
+
+// The old parts of a comparison.
+fn old_parts<F: Folder>(
+    alloc: Global,
+    folder: &F,
+    files: &Files,
+) -> Result<Option<Parts<'static>>, ConsoleFault>
+    ensures read { IfOk result (AreOld (F.held folder.now) files.now.old_catalogue
+        files.now.old_config) }
+    ensures unread { IfErr result IsUnread }
+{
+    match (&files.old_catalogue, &files.old_config) {
+        (Some(catalogue), Some(config)) => { Ok(Some(parts_at(alloc, folder, catalogue, config)?)) }
+        _ => Ok(None),
+    }
+}
+
+// The parts that two old files are.
+fn parts_at<F: Folder>(
+    alloc: Global,
+    folder: &F,
+    catalogue: &Text,
+    config: &Text,
+) -> Result<Parts<'static>, ConsoleFault>
+    ensures read { IfOk result (ArePair (F.held folder.now) catalogue.now config.now) }
+    ensures unread { IfErr result IsUnread }
+{
+    let catalogue = catalogue_at(alloc, folder, catalogue, Role::OldCatalogue)?;
+    let config = text_at(alloc, folder, config, Role::OldConfig)?;
+    Ok(Parts {
+        catalogue: catalogue.text,
+        config,
+        certificate: None,
+        script: None,
+    })
+}
+
+// The text of a file that the request may lack.
+fn optional_text<F: Folder>(
+    alloc: Global,
+    folder: &F,
+    path: &Option<Text>,
+    role: Role,
+) -> Result<Option<Text>, ConsoleFault>
+    ensures read { IfOk result (MayBeHeld (F.held folder.now) path.now) }
+    ensures unread { IfErr result IsUnread }
+{
+    match path {
+        Some(path) => Ok(Some(text_at(alloc, folder, path, role)?)),
+        None => Ok(None),
+    }
+}
+
+// The text of a catalogue, and the name of its file.
+#[derive(Drop)]
+struct Named {
+    text: Text,
+    name: Text,
+}
+
+// The text of a catalogue in full: one of format 3 is read as its expansion.
+fn catalogue_at<F: Folder>(
+    alloc: Global,
+    folder: &F,
+    path: &Text,
+    role: Role,
+) -> Result<Named, ConsoleFault>
+    ensures read { IfOk result (λ named. IsMeant (F.held folder.now) path.now named.text) }
+    ensures unread { IfErr result IsUnread }
+{
+    let text = text_at(alloc, folder, path, role)?;
+    let full = match in_full(alloc, text) {
+        Ok(full) => full,
+        Err(ShortFault::Memory) => return Err(unread(role, Unread::Memory)),
+        Err(_) => return Err(unread(role, Unread::Unexpanded)),
+    };
+    match name_of(alloc, path, full.is_expanded) {
+        Ok(name) => Ok(Named {
+            text: full.text,
+            name,
+        }),
+        Err(_) => Err(unread(role, Unread::Memory)),
+    }
+}
+
+// What a catalogue is called where its lines are told.
+fn name_of(alloc: Global, path: &Text, is_expanded: bool) -> Result<Text, AllocError> {
+    if is_expanded {
+        let shown = shown(path.as_str());
+        let string = format!(in alloc; "{shown}, expanded")?;
+        Ok(Text::from_string(string))
+    } else {
+        Text::new(alloc, path.as_str())
+    }
+}
+
+fn unread(role: Role, cause: Unread) -> ConsoleFault
+    ensures { IsUnread result }
+{
+    ConsoleFault::Unread { role, cause }
+}
+
+// The text of a file.
+pub(crate) fn text_at<F: Folder>(
+    alloc: Global,
+    folder: &F,
+    path: &Text,
+    role: Role,
+) -> Result<Text, ConsoleFault>
+    ensures read { IfOk result (λ text. IsHeld (F.held folder.now) path.now text) }
+    ensures unread { IfErr result IsUnread }
+{
+    match folder.read(alloc, path.as_str()) {
+        Ok(text) => Ok(text),
+        Err(cause) => Err(ConsoleFault::Unread { role, cause }),
+    }
+}

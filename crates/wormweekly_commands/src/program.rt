@@ -1,0 +1,383 @@
+//! A request, run.
+ghost use Rattle.std.specs.Prelude.{◌≡◌, ◌≢◌, IfErr, IfOk, IsSomeAnd, MatchOption, None, OnErr, false, is_some, not, true};
+ghost use Rattle.wormweekly_commands.specs.Inputs.{input_of};
+ghost use Rattle.wormweekly_commands.specs.Comparing.{Compares, RefusesDiff};
+ghost use Rattle.wormweekly_commands.specs.Faults.{IsDeviceFault, IsRefusal};
+ghost use Rattle.metric_kit_commands.specs.Commands.{sink_run};
+ghost use Rattle.wormweekly_commands.specs.Paging.{dialect_of};
+ghost use Rattle.wormweekly_commands.specs.Runs.{Answers, EndsPlain, EndsScript, IsOld, IsOneFile, IsOverwriting, IsReplayEnd, NamesInput, NamesOld, RefusesFor, Replays, RunsCommand, RunsRequest};
+ghost use Rattle.wormweekly_commands.specs.Runs.{Reports, RunsTexts, known_by, writing};
+ghost use Rattle.wormweekly_commands.specs.Reporting.{RefusesReport};
+ghost use Rattle.wormweekly_commands.specs.Told.{IsLineEnd};
+
+use crate::answer::answer_of;
+use crate::change_sheet::ChangeSheet;
+use crate::comparing::{Comparison, comparison_of, diff_status};
+use crate::delivering::{deliver, print, print_sheet, put};
+use crate::drawing::run_draw;
+use crate::expanding::run_expand;
+use crate::fault::{ConsoleFault, Role};
+use crate::folder::{Folder, Unread};
+use crate::paging::{dialect_of, replay_as_page};
+use crate::parts::{Texts, texts_of};
+use crate::replaying::{has_header, input_of, replay_in_form};
+use crate::report::report_of;
+use crate::report_page::report_page;
+use crate::telling::{stop, tell_line, warn};
+use metric_base::Text;
+use metric_command_lines::{Files, Request, RequestFault, Task};
+use metric_io::Sink;
+use metric_kit_commands::KitFault;
+use metric_parts::Parts;
+use metric_sheet::Sheet;
+use std::alloc::Global;
+
+/// Runs what a command line asks for, in a folder and into a sink, tells on `errors` why it stops, and gives the
+/// program's exit status: 0 where it is done, 1 where the files are refused or remarks are errors, 2 where the words
+/// name no command or a file to write to that is read, 3 where a file is unreadable, 4 when out of memory, 5 where a
+/// write failed. A table is `columns` wide at most where the request does not say how wide; 0 means that it may be as
+/// wide as it likes.
+pub fn run_request<F: Folder, W: Sink, E: Sink>(
+    alloc: Global,
+    request: Result<Request, RequestFault>,
+    columns: u32,
+    folder: &mut F,
+    sink: &mut W,
+    errors: &mut E,
+) -> u8
+    ensures asked { IfOk request (λ asked. RunsRequest (known_by F.held F.same folder.old) asked
+        (writing F.made W.contents folder.old folder.new sink.old sink.new)
+        (sink_run W.contents W.failures sink.old sink.new) result) }
+    ensures unasked { IfErr request (λ fault.
+        IsLineEnd fault (W.contents sink.old) (W.contents sink.new) result) }
+    ensures unmade { OnErr request (folder.new ≡ folder.old) }
+{
+    match request {
+        Ok(request) => run_asked(alloc, &request, columns, folder, sink, errors),
+        Err(fault) => tell_line(fault, sink, errors),
+    }
+}
+
+fn run_asked<F: Folder, W: Sink, E: Sink>(
+    alloc: Global,
+    request: &Request,
+    columns: u32,
+    folder: &mut F,
+    sink: &mut W,
+    errors: &mut E,
+) -> u8
+    ensures { RunsRequest (known_by F.held F.same folder.old) request.now
+        (writing F.made W.contents folder.old folder.new sink.old sink.new)
+        (sink_run W.contents W.failures sink.old sink.new) result }
+{
+    if request.task == Task::Expand {
+        run_expand(alloc, request, folder, sink, errors)
+    } else {
+        run_files(alloc, request, columns, folder, sink, errors)
+    }
+}
+
+// Runs a command on its files, and tells how it ends.
+fn run_files<F: Folder, W: Sink, E: Sink>(
+    alloc: Global,
+    request: &Request,
+    columns: u32,
+    folder: &mut F,
+    sink: &mut W,
+    errors: &mut E,
+) -> u8
+    requires { request.now.task ≢ Task.Expand }
+    ensures { RunsCommand (known_by F.held F.same folder.old) request.now
+        (writing F.made W.contents folder.old folder.new sink.old sink.new)
+        (sink_run W.contents W.failures sink.old sink.new) result }
+{
+    if let Some(role) = overwritten(folder, &request.files) {
+        return stop(
+            alloc,
+            request,
+            None,
+            ConsoleFault::Overwrites { role },
+            errors,
+        );
+    }
+    let texts = match texts_of(alloc, folder, &request.files) {
+        Ok(texts) => texts,
+        Err(fault) => return stop(alloc, request, None, fault, errors),
+    };
+    match run_texts(alloc, request, &texts, columns, folder, sink, errors) {
+        Ok(status) => status,
+        Err(fault) => stop(alloc, request, Some(&texts), fault, errors),
+    }
+}
+
+// Which of the files that are read the output is.
+fn overwritten<F: Folder>(folder: &F, files: &Files) -> Option<Role>
+    ensures { MatchOption result (NamesInput files.now → ⊥)
+        (IsOverwriting (F.same folder.now) files.now) }
+{
+    let Some(output) = &files.output else {
+        return None;
+    };
+    if folder.is_same(output.as_str(), files.catalogue.as_str()) {
+        Some(Role::Catalogue)
+    } else if folder.is_same(output.as_str(), files.config.as_str()) {
+        Some(Role::Config)
+    } else {
+        overwritten_old(folder, output.as_str(), files)
+    }
+}
+
+// Which of the old files, where there are some, a path leads to.
+fn overwritten_old<F: Folder>(folder: &F, output: &str, files: &Files) -> Option<Role>
+    ensures { MatchOption result (NamesOld output.now files.now → ⊥)
+        (IsOld (F.same folder.now) output.now files.now) }
+{
+    if is_at(folder, output, &files.old_catalogue) {
+        Some(Role::OldCatalogue)
+    } else if is_at(folder, output, &files.old_config) {
+        Some(Role::OldConfig)
+    } else {
+        None
+    }
+}
+
+// Whether a path leads to a file that the request may lack.
+fn is_at<F: Folder>(folder: &F, output: &str, path: &Option<Text>) -> bool
+    ensures known { result ≡ true → IsSomeAnd path.now (IsOneFile (F.same folder.now) output.now) }
+    ensures own { result ≡ false → IsSomeAnd path.now (λ own. own ≡ output.now) → ⊥ }
+{
+    match path {
+        Some(path) => folder.is_same(output, path.as_str()),
+        None => false,
+    }
+}
+
+// Runs a command on the texts of its files. The exit status.
+fn run_texts<F: Folder, W: Sink, E: Sink>(
+    alloc: Global,
+    request: &Request,
+    texts: &Texts,
+    columns: u32,
+    folder: &mut F,
+    sink: &mut W,
+    errors: &mut E,
+) -> Result<u8, ConsoleFault>
+    requires { request.now.task ≢ Task.Expand }
+    ensures { RunsTexts request.now texts.now
+        (writing F.made W.contents folder.old folder.new sink.old sink.new)
+        (sink_run W.contents W.failures sink.old sink.new) result }
+{
+    if request.task == Task::Replay {
+        run_replay(alloc, request, texts, sink)
+    } else if request.task == Task::Diff {
+        run_diff(alloc, request, texts, columns, sink)
+    } else if request.task == Task::Report {
+        run_report(alloc, request, texts, folder, sink)
+    } else if request.task == Task::Draw {
+        run_draw(alloc, request, texts, folder, sink)
+    } else {
+        run_answer(alloc, request, texts, columns, folder, sink, errors)
+    }
+}
+
+// Answers of the texts what a request asks for, writes the answer, and tells what is to be warned of. The exit status.
+#[tactic(auto, using(crate::proofs::Devices::delivery_is_no_refusal))]
+fn run_answer<F: Folder, W: Sink, E: Sink>(
+    alloc: Global,
+    request: &Request,
+    texts: &Texts,
+    columns: u32,
+    folder: &mut F,
+    sink: &mut W,
+    errors: &mut E,
+) -> Result<u8, ConsoleFault>
+    requires other { request.now.task ≢ Task.Replay }
+    requires single { request.now.task ≢ Task.Diff }
+    requires long { request.now.task ≢ Task.Expand }
+    requires answer { request.now.task ≢ Task.Report }
+    requires picture { request.now.task ≢ Task.Draw }
+    ensures ok { IfOk result (Answers request.now texts.now.parts
+        (writing F.made W.contents folder.old folder.new sink.old sink.new)) }
+    ensures first { IfErr result (RefusesFor request.now.task texts.now.parts) }
+    ensures unmade { OnErr result (F.made folder.new ≡ F.made folder.old) }
+    ensures unwritten { IfErr result (λ fault. IsRefusal fault → sink.new ≡ sink.old) }
+{
+    let task = request.task;
+    if task == Task::Check && texts.parts.certificate.is_none() {
+        return Err(missing(Role::Certificate));
+    }
+    let answer = answer_of(alloc, task, request, &texts.parts)?;
+    let status = deliver(alloc, request, texts, &answer, columns, folder, sink)?;
+    warn(alloc, request, texts, &answer, errors);
+    Ok(status)
+}
+
+// Compares old files with new ones, and writes what differs. The exit status.
+#[tactic(auto, using(crate::proofs::Devices::device_is_not_refused))]
+fn run_diff<W: Sink>(
+    alloc: Global,
+    request: &Request,
+    texts: &Texts,
+    columns: u32,
+    sink: &mut W,
+) -> Result<u8, ConsoleFault>
+    ensures ok { IfOk result (Compares request.now texts.now) }
+    ensures first { IfErr result (RefusesDiff texts.now) }
+    ensures untouched { IfErr result (λ fault. IsRefusal fault
+        → W.contents sink.new ≡ W.contents sink.old) }
+{
+    let comparison = comparison_of(alloc, texts)?;
+    print_comparison(alloc, request, &comparison, columns, sink)?;
+    let changes = comparison.changes.as_slice();
+    Ok(diff_status(request.options.deny_breaking, changes))
+}
+
+// Writes what differs, as a table or as lines of JSON.
+fn print_comparison<W: Sink>(
+    alloc: Global,
+    request: &Request,
+    comparison: &Comparison,
+    columns: u32,
+    sink: &mut W,
+) -> Result<(), KitFault>
+    ensures { IfErr result IsDeviceFault }
+{
+    let sheet = ChangeSheet { comparison };
+    if sheet.rows() == 0 && !request.options.json {
+        return print(sink, "nothing differs\n");
+    }
+    print_sheet(alloc, sink, &sheet, request.options, columns)
+}
+
+// Writes a report. The exit status.
+#[tactic(auto, using(crate::proofs::Devices::delivery_is_no_refusal, crate::proofs::Reports::delivery_refuses))]
+fn run_report<F: Folder, W: Sink>(
+    alloc: Global,
+    request: &Request,
+    texts: &Texts,
+    folder: &mut F,
+    sink: &mut W,
+) -> Result<u8, ConsoleFault>
+    ensures ok { IfOk result (Reports request.now texts.now
+        (writing F.made W.contents folder.old folder.new sink.old sink.new)) }
+    ensures first { IfErr result (RefusesReport texts.now) }
+    ensures unmade { OnErr result (F.made folder.new ≡ F.made folder.old) }
+    ensures unwritten { IfErr result (λ fault. IsRefusal fault → sink.new ≡ sink.old) }
+{
+    let report = report_of(alloc, request, texts)?;
+    let page = report_page(alloc, request, texts, &report)?;
+    put(&request.files.output, page.as_slice(), folder, sink)?;
+    Ok(0)
+}
+
+// The fault that a request has no such file.
+fn missing(role: Role) -> ConsoleFault
+    ensures { result ≡ ConsoleFault.Unread role Unread.Missing }
+{
+    ConsoleFault::Unread {
+        role,
+        cause: Unread::Missing,
+    }
+}
+
+// Replays a script. The exit status.
+fn run_replay<W: Sink>(
+    alloc: Global,
+    request: &Request,
+    texts: &Texts,
+    sink: &mut W,
+) -> Result<u8, ConsoleFault>
+    ensures { Replays request.now texts.now
+        (sink_run W.contents W.failures sink.old sink.new) result }
+{
+    let Some(script) = &texts.script else {
+        return Err(missing(Role::Script));
+    };
+    if let Some(role) = headed(&texts.parts) {
+        return Err(ConsoleFault::Header { role });
+    }
+    let input = input_of(alloc, &texts.parts, script)?;
+    replay_script(alloc, request, &texts.parts, script, &input, sink)
+}
+
+// Replays the input that files and a script make up. The exit status.
+fn replay_script<W: Sink>(
+    alloc: Global,
+    request: &Request,
+    parts: &Parts<'_>,
+    script: &Text,
+    input: &[u8],
+    sink: &mut W,
+) -> Result<u8, ConsoleFault>
+    requires { input.now ≡ input_of parts.now.catalogue parts.now.config parts.now.certificate
+        script.now }
+    ensures { EndsScript request.now parts.now script.now
+        (sink_run W.contents W.failures sink.old sink.new) result }
+{
+    // For the proof alone: the input has the script.
+    let _ = script;
+    match replay_as(alloc, request, parts, input, sink) {
+        Ok(()) => Ok(0),
+        Err(fault) => Err(fault),
+    }
+}
+
+// Replays an input of parts, which these are, in the form that is asked for.
+fn replay_as<W: Sink>(
+    alloc: Global,
+    request: &Request,
+    parts: &Parts<'_>,
+    input: &[u8],
+    sink: &mut W,
+) -> Result<(), ConsoleFault>
+    ensures { IsReplayEnd request.now parts.now input.now
+        (sink_run W.contents W.failures sink.old sink.new) result }
+{
+    let trial = is_trial(parts);
+    match dialect_of(request.options.form) {
+        Some(dialect) => replay_as_page(alloc, request, dialect, parts, trial, input, sink),
+        None => replay_plain(alloc, request, trial, input, sink),
+    }
+}
+
+// Whether a replay is a trial: it is one without a certificate.
+fn is_trial(parts: &Parts<'_>) -> bool
+    ensures { result ≡ not (is_some parts.now.certificate) }
+{
+    !parts.certificate.is_some()
+}
+
+// The same in a form that is no page.
+fn replay_plain<W: Sink>(
+    alloc: Global,
+    request: &Request,
+    trial: bool,
+    input: &[u8],
+    sink: &mut W,
+) -> Result<(), ConsoleFault>
+    requires { dialect_of request.now.options.form ≡ None }
+    ensures { EndsPlain request.now trial input.now
+        (sink_run W.contents W.failures sink.old sink.new) result }
+{
+    match replay_in_form(alloc, request, trial, input, sink) {
+        Ok(()) => Ok(()),
+        Err(fault) => Err(ConsoleFault::Kit(fault)),
+    }
+}
+
+// The first file of which a line looks like the header of a part.
+fn headed(parts: &Parts<'_>) -> Option<Role> {
+    if has_header(&parts.catalogue) {
+        Some(Role::Catalogue)
+    } else if has_header(&parts.config) {
+        Some(Role::Config)
+    } else if parts
+        .certificate
+        .as_ref()
+        .is_some_and(|text| has_header(text))
+    {
+        Some(Role::Certificate)
+    } else {
+        None
+    }
+}

@@ -1,0 +1,77 @@
+//! What a report has.
+ghost use Rattle.std.specs.Prelude.{IfErr, IfOk};
+ghost use Rattle.wormweekly_commands.specs.Reporting.{AreDifferences, IsReport, RefusesReport};
+
+use crate::comparing::{Comparison, compared};
+use crate::drawing::picture_of;
+use crate::fault::ConsoleFault;
+use crate::listing::{Listing, listing_of};
+use crate::notes::{Notes, notes_of};
+use crate::parts::Texts;
+use crate::rooms::{Rooms, rooms_of};
+use metric_command_lines::Request;
+use std::alloc::Global;
+
+/// What a report has: the streams, the remarks, the budgets, the picture, and what differs from old files.
+pub(crate) struct Report {
+    pub listing: Listing,
+    pub notes: Notes,
+    pub rooms: Rooms,
+    pub picture: String,
+    pub comparison: Option<Comparison>,
+}
+
+impl Drop for Report {
+    fn drop(self) {
+        let Report {
+            listing: _listing,
+            notes: _notes,
+            rooms: _rooms,
+            picture: _picture,
+            comparison: _comparison,
+        } = self;
+    }
+}
+
+/// What a report of the texts has.
+///
+/// # Errors
+///
+/// The first fault of the old files, as [`ConsoleFault::Old`], or of the new ones; and [`KitFault::Memory`].
+#[tactic(auto, using(crate::proofs::Reports::declared_refused))]
+pub(crate) fn report_of(
+    alloc: Global,
+    request: &Request,
+    texts: &Texts,
+) -> Result<Report, ConsoleFault>
+    ensures ok { IfOk result (IsReport request.now texts.now) }
+    ensures first { IfErr result (RefusesReport texts.now) }
+{
+    let comparison = differences_of(alloc, texts)?;
+    let listing = listing_of(alloc, &texts.parts)?;
+    let notes = notes_of(alloc, request, &texts.parts)?;
+    let rooms = rooms_of(alloc, &texts.parts)?;
+    let picture = picture_of(alloc, &texts.parts, &comparison)?;
+    Ok(Report {
+        listing,
+        notes,
+        rooms,
+        picture,
+        comparison,
+    })
+}
+
+/// What differs from the old files, where there are some.
+#[tactic(auto, using(crate::proofs::Reports::pair_is_refused))]
+pub(crate) fn differences_of(
+    alloc: Global,
+    texts: &Texts,
+) -> Result<Option<Comparison>, ConsoleFault>
+    ensures ok { IfOk result (AreDifferences texts.now.old texts.now.parts) }
+    ensures first { IfErr result (RefusesReport texts.now) }
+{
+    match &texts.old {
+        Some(old) => Ok(Some(compared(alloc, old, &texts.parts)?)),
+        None => Ok(None),
+    }
+}

@@ -1,0 +1,389 @@
+//! What a person is told.
+ghost use Rattle.std.specs.Prelude.{◌≡◌};
+ghost use Rattle.wormweekly_commands.specs.Faults.{status_of};
+ghost use Rattle.wormweekly_commands.specs.Told.{IsLineEnd};
+
+use crate::answer::Answer;
+use crate::delivering::print;
+use crate::exposures::Exposure;
+use crate::fault::{ConsoleFault, Role};
+use crate::folder::{Unread, Unwritten};
+use crate::listing::Listing;
+use crate::notes::Notes;
+use crate::page_words::told_page;
+use crate::parts::Texts;
+use crate::replaying::lines_before;
+use crate::shown_path::shown;
+use crate::telling_old::told_old;
+use metric_advice::{Remark, remark_of};
+use metric_base::Text;
+use metric_command_lines::{Files, Misuse, Request, RequestFault};
+use metric_diagnosis::{
+    Diagnosis, NamedText, Pair, diagnose_catalogue, diagnose_certificate, diagnose_check,
+    diagnose_config, diagnose_exposure, diagnose_make, diagnose_remark,
+};
+use metric_io::Sink;
+use metric_kit_commands::{Declared, KitFault, declared_of};
+use metric_make::MakeFault;
+use std::alloc::{AllocError, Global};
+
+// The exit status where the words name no command, and where help cannot be written.
+const USAGE: u8 = 2;
+
+const UNWRITTEN: u8 = 5;
+
+// So many warnings are told, since the place of each is looked for in the texts.
+const MOST_WARNINGS: usize = 100;
+
+/// Tells why a command line asks for nothing, and gives the exit status. Help and the version go to `sink`, and are
+/// done.
+pub(crate) fn tell_line<W: Sink, E: Sink>(fault: RequestFault, sink: &mut W, errors: &mut E) -> u8
+    ensures { IsLineEnd fault (W.contents sink.old) (W.contents sink.new) result }
+{
+    match fault {
+        RequestFault::Told(text) => match print(sink, text.as_str()) {
+            Ok(()) => 0,
+            Err(_) => unwritten(errors),
+        },
+        RequestFault::Usage(text) => misused(text.as_str(), errors),
+        RequestFault::Nothing => misused("no command is named; try 'wormweekly --help'\n", errors),
+        RequestFault::Misused(misuse) => misused(words_of(misuse), errors),
+        RequestFault::Memory => {
+            let _told = print(errors, "memory was refused\n");
+            4
+        }
+    }
+}
+
+// What is told of a misuse of an option.
+fn words_of(misuse: Misuse) -> &'static str {
+    match misuse {
+        Misuse::Deny =>
+            "error: '--deny' knows 'remarks' and their kinds alone; try 'wormweekly lint --help'\n",
+        Misuse::Change => "error: '--deny' of 'diff' knows 'breaking' alone\n",
+        Misuse::Allow =>
+            "error: '--allow' knows the kinds of remarks alone; try 'wormweekly lint --help'\n",
+        Misuse::Outlet => "error: '--for' knows 'prometheus' and 'otlp' alone\n",
+        Misuse::Form => "error: '--as' knows no such form; try 'wormweekly replay --help'\n",
+        Misuse::Audit => "error: '--audit' audits replies, and with '--as' none are printed\n",
+        Misuse::Resource => "error: '--resource' belongs to '--as'\n",
+        Misuse::Reader => "error: '--reader' belongs to '--as prometheus' and the other pages\n",
+        Misuse::Input =>
+            "error: '-' is standard input, which can be read only once, and here two files are it\n",
+        Misuse::NoEquals => "error: '--resource' takes KEY=VALUE, and a word has no '='\n",
+        Misuse::TooMany => "error: '--resource' is given more than 64 times\n",
+        Misuse::EmptyKey => "error: '--resource' has an attribute without a key\n",
+        Misuse::RepeatedKey => "error: '--resource' has two attributes of one key\n",
+    }
+}
+
+// Tells that help was not written.
+fn unwritten<E: Sink>(errors: &mut E) -> u8
+    ensures { result ≡ 5 }
+{
+    let _told = print(errors, "standard output: a write failed\n");
+    UNWRITTEN
+}
+
+// Tells a misuse.
+fn misused<E: Sink>(text: &str, errors: &mut E) -> u8
+    ensures { result ≡ 2 }
+{
+    let _told = print(errors, text);
+    USAGE
+}
+
+/// Tells why a command stops, and gives the exit status, which stands whatever becomes of the telling.
+pub(crate) fn stop<E: Sink>(
+    alloc: Global,
+    request: &Request,
+    texts: Option<&Texts>,
+    fault: ConsoleFault,
+    errors: &mut E,
+) -> u8
+    ensures { result ≡ status_of fault }
+{
+    let _told = match told(alloc, request, texts, fault) {
+        Ok(text) => print(errors, text.as_str()),
+        Err(_) => print(errors, "memory was refused\n"),
+    };
+    fault.status()
+}
+
+/// Tells what is to be warned of beside an answer that is written, whatever becomes of the telling.
+pub(crate) fn warn<E: Sink>(
+    alloc: Global,
+    request: &Request,
+    texts: &Texts,
+    answer: &Answer,
+    errors: &mut E,
+) {
+    let _told = match answer {
+        Answer::Streams(listing) => match warnings_of(alloc, &request.files, texts, listing) {
+            Ok(text) => print(errors, text.as_str()),
+            Err(_) => print(errors, "memory was refused\n"),
+        },
+        _ => Ok(()),
+    };
+}
+
+// What is told of the first warnings of a listing, and how many more there are.
+fn warnings_of(
+    alloc: Global,
+    files: &Files,
+    texts: &Texts,
+    listing: &Listing,
+) -> Result<String, AllocError> {
+    let mut told = String::new(alloc);
+    let warnings = listing.streams.warnings();
+    for warning in warnings.iter().take(MOST_WARNINGS) {
+        let remark = remark_of(*warning);
+        push_note(alloc, &mut told, files, texts, &listing.declared, remark)?;
+    }
+    if warnings.len() > MOST_WARNINGS {
+        let more = warnings.len() - MOST_WARNINGS;
+        write!(told, "and {more} more warnings\n")?;
+    }
+    Ok(told)
+}
+
+// A fault for people, with its file and its place.
+fn told(
+    alloc: Global,
+    request: &Request,
+    texts: Option<&Texts>,
+    fault: ConsoleFault,
+) -> Result<String, AllocError> {
+    match fault {
+        ConsoleFault::Unread { role, cause } => told_unread(alloc, &request.files, role, cause),
+        ConsoleFault::Overwrites { role } => told_overwritten(alloc, &request.files, role),
+        ConsoleFault::Unwritten { cause } => told_unwritten(alloc, &request.files, cause),
+        ConsoleFault::Header { role } => told_header(alloc, &request.files, role),
+        ConsoleFault::Page(fault) => told_page(alloc, request, texts, fault),
+        ConsoleFault::Old(fault) => told_old(alloc, &request.files, texts, fault),
+        ConsoleFault::Kit(KitFault::Write) => {
+            String::from_str(alloc, "standard output: a write failed\n")
+        }
+        ConsoleFault::Kit(fault) => match texts {
+            Some(texts) => told_kit(alloc, &request.files, texts, fault),
+            None => told_plain(alloc, fault),
+        },
+    }
+}
+
+fn told_unread(
+    alloc: Global,
+    files: &Files,
+    role: Role,
+    cause: Unread,
+) -> Result<String, AllocError> {
+    let path = path_of(files, role);
+    let words = cause.words();
+    format!(in alloc; "{path}: {words}\n")
+}
+
+fn told_overwritten(alloc: Global, files: &Files, role: Role) -> Result<String, AllocError> {
+    let path = output_of(files);
+    let input = path_of(files, role);
+    format!(in alloc; "{path}: it is not written, since it is the file {input} that is read\n")
+}
+
+fn told_unwritten(alloc: Global, files: &Files, cause: Unwritten) -> Result<String, AllocError> {
+    let path = output_of(files);
+    let words = cause.words();
+    format!(in alloc; "{path}: {words}\n")
+}
+
+// The path of the file to write to.
+fn output_of(files: &Files) -> &str {
+    match &files.output {
+        Some(path) => path.as_str(),
+        None => "",
+    }
+}
+
+fn told_header(alloc: Global, files: &Files, role: Role) -> Result<String, AllocError> {
+    let path = path_of(files, role);
+    format!(in alloc; "{path}: a line begins with '%% ', which no part of a replay can have\n")
+}
+
+// What a file is called.
+fn path_of(files: &Files, role: Role) -> &str {
+    shown(named(files, role))
+}
+
+// The path of a file, or what it is where the words have none.
+fn named(files: &Files, role: Role) -> &str {
+    match role {
+        Role::OldCatalogue => match &files.old_catalogue {
+            Some(path) => path.as_str(),
+            None => "old catalogue",
+        },
+        Role::OldConfig => match &files.old_config {
+            Some(path) => path.as_str(),
+            None => "old config",
+        },
+        Role::Catalogue => files.catalogue.as_str(),
+        Role::Config => files.config.as_str(),
+        Role::Certificate => match &files.certificate {
+            Some(path) => path.as_str(),
+            None => "certificate",
+        },
+        Role::Script => match &files.script {
+            Some(path) => path.as_str(),
+            None => "script",
+        },
+    }
+}
+
+// A fault that `metric_kit` has too, with its place and its cause where it has these.
+fn told_kit(
+    alloc: Global,
+    files: &Files,
+    texts: &Texts,
+    fault: KitFault,
+) -> Result<String, AllocError> {
+    match fault {
+        KitFault::Catalogue(fault) => {
+            let source = source_of(&texts.name, &texts.parts.catalogue);
+            spelled(alloc, diagnose_catalogue(alloc, source, fault))
+        }
+        KitFault::Config(fault) => {
+            let source = source_of(&files.config, &texts.parts.config);
+            spelled(alloc, diagnose_config(alloc, source, fault))
+        }
+        KitFault::Make(fault) => told_make(alloc, files, texts, fault),
+        KitFault::Input { line } => told_script(alloc, files, texts, line),
+        KitFault::Certificate(_) | KitFault::Check(_) => {
+            told_certificate(alloc, files, texts, fault)
+        }
+        _ => told_plain(alloc, fault),
+    }
+}
+
+// A fault of a certificate, or of its check.
+fn told_certificate(
+    alloc: Global,
+    files: &Files,
+    texts: &Texts,
+    fault: KitFault,
+) -> Result<String, AllocError> {
+    let (Some(path), Some(text)) = (&files.certificate, &texts.parts.certificate) else {
+        return told_plain(alloc, fault);
+    };
+    match fault {
+        KitFault::Certificate(fault) => {
+            let source = source_of(path, text);
+            spelled(alloc, diagnose_certificate(alloc, source, fault))
+        }
+        KitFault::Check(fault) => {
+            let source = source_of(path, text);
+            spelled(alloc, diagnose_check(alloc, source, fault))
+        }
+        _ => told_plain(alloc, fault),
+    }
+}
+
+// Which part of safety fails.
+fn told_make(
+    alloc: Global,
+    files: &Files,
+    texts: &Texts,
+    fault: MakeFault,
+) -> Result<String, AllocError> {
+    match declared_of(alloc, &texts.parts) {
+        Ok(declared) => {
+            let pair = pair_of(files, texts, &declared);
+            spelled(alloc, diagnose_make(alloc, pair, fault))
+        }
+        Err(fault) => told_plain(alloc, fault),
+    }
+}
+
+pub(crate) fn source_of<'t>(path: &'t Text, text: &'t Text) -> NamedText<'t> {
+    NamedText {
+        name: shown(path.as_str()),
+        text: text.as_str(),
+    }
+}
+
+/// The catalogue and the config, with the texts that they were read from.
+pub(crate) fn pair_of<'t>(files: &'t Files, texts: &'t Texts, declared: &'t Declared) -> Pair<'t> {
+    Pair {
+        catalogue: &declared.catalogue,
+        catalogue_source: source_of(&texts.name, &texts.parts.catalogue),
+        config: &declared.config,
+        config_source: source_of(&files.config, &texts.parts.config),
+    }
+}
+
+/// What is told of a fault, with the line that it is in, where both could be made.
+pub(crate) fn spelled<F: Drop>(
+    alloc: Global,
+    told: Result<Diagnosis<'_, F>, AllocError>,
+) -> Result<String, AllocError> {
+    let told = told?;
+    let excerpt = told.excerpt();
+    format!(in alloc; "{told}\n{excerpt}")
+}
+
+// The line of the script at which it is none; of one that no line starts, no place.
+fn told_script(
+    alloc: Global,
+    files: &Files,
+    texts: &Texts,
+    line: u64,
+) -> Result<String, AllocError> {
+    let path = path_of(files, Role::Script);
+    let line = line.saturating_sub(lines_before(&texts.parts));
+    if line > lines_of(&texts.script) {
+        return format!(in alloc;
+            "{path}: no start line: a script begins with one, such as 'start 0'\n"
+        );
+    }
+    format!(in alloc; "{path}:{line}:1: this line is no event, or none that may stand here\n")
+}
+
+// How many lines a script has.
+fn lines_of(script: &Option<Text>) -> u64 {
+    match script {
+        Some(text) => text.as_str().lines().count() as u64,
+        None => 0,
+    }
+}
+
+/// A fault as `metric_kit` tells it.
+pub(crate) fn told_plain(alloc: Global, fault: KitFault) -> Result<String, AllocError> {
+    format!(in alloc; "{fault}\n")
+}
+
+/// Puts what is told of an exposure last, with the line that it is in.
+pub(crate) fn push_exposure(
+    alloc: Global,
+    note: &mut String,
+    files: &Files,
+    texts: &Texts,
+    notes: &Notes,
+    exposure: Exposure,
+) -> Result<(), AllocError> {
+    let pair = pair_of(files, texts, &notes.declared);
+    let Exposure { outlet, fault } = exposure;
+    let streams = notes.streams.as_slice();
+    let told = diagnose_exposure(alloc, pair, streams, outlet, fault);
+    let text = spelled(alloc, told)?;
+    note.push_str(text.as_str())
+}
+
+/// Puts what a remark says last, with the line that it is in.
+pub(crate) fn push_note(
+    alloc: Global,
+    note: &mut String,
+    files: &Files,
+    texts: &Texts,
+    declared: &Declared,
+    remark: Remark,
+) -> Result<(), AllocError> {
+    let pair = pair_of(files, texts, declared);
+    let text = spelled(alloc, diagnose_remark(alloc, pair, remark))?;
+    note.push_str(text.as_str())
+}

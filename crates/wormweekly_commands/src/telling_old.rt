@@ -1,0 +1,47 @@
+//! What a person is told of a fault of the old files of a comparison.
+use crate::parts::Texts;
+use crate::telling::{source_of, spelled, told_plain};
+use metric_base::Text;
+use metric_command_lines::Files;
+use metric_diagnosis::{NamedText, diagnose_catalogue, diagnose_config};
+use metric_kit_commands::KitFault;
+use std::alloc::{AllocError, Global};
+
+/// A fault of the old files, with its place and its cause.
+pub(crate) fn told_old(
+    alloc: Global,
+    files: &Files,
+    texts: Option<&Texts>,
+    fault: KitFault,
+) -> Result<String, AllocError> {
+    let Some(
+        Texts {
+            old: Some(parts),
+            ..
+        },
+    ) = texts
+    else {
+        return told_plain(alloc, fault);
+    };
+    match fault {
+        KitFault::Catalogue(fault) => {
+            let source = named(&files.old_catalogue, &parts.catalogue);
+            spelled(alloc, diagnose_catalogue(alloc, source, fault))
+        }
+        KitFault::Config(fault) => {
+            let source = named(&files.old_config, &parts.config);
+            spelled(alloc, diagnose_config(alloc, source, fault))
+        }
+        _ => told_plain(alloc, fault),
+    }
+}
+
+fn named<'t>(path: &'t Option<Text>, text: &'t Text) -> NamedText<'t> {
+    match path {
+        Some(path) => source_of(path, text),
+        None => NamedText {
+            name: "",
+            text: text.as_str(),
+        },
+    }
+}
