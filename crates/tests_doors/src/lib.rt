@@ -23,9 +23,13 @@ mod handles;
 #[cfg(test)]
 mod life;
 #[cfg(test)]
+mod one_recorder;
+#[cfg(test)]
 mod outlets;
 #[cfg(test)]
 mod pages;
+#[cfg(test)]
+mod proved_caller;
 #[cfg(test)]
 mod rolls;
 #[cfg(test)]

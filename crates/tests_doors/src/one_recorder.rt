@@ -1,0 +1,37 @@
+//! A test of a run of one recorder, which ends by a caller with a contract of its own.
+use crate::asserted::{OrFail, assert_equal};
+use crate::proved_caller::totals_of_one;
+use metric_sdk::{Runs, counter, open};
+
+const CATALOGUE: &str = "format = 1
+[[meter]]
+name = 'm'
+[[meter.instrument]]
+name = 'c'
+kind = 'counter'
+range = [1, 9]
+[[recorder]]
+name = 'r'
+budget = [{ instrument = 0, amount = 3 }]
+";
+
+const CONFIG: &str = "format = 1\n[[reader]]\nname = 'q'\n";
+
+#[test]
+fn a_run_of_one_recorder_comes_to_what_it_was_told(rt: HostRuntime) {
+    let opened = open(&rt, rt.alloc(), CATALOGUE, CONFIG, 0, &mut Runs::new());
+    let (provider, mut recorders, _readers) = opened.or_fail(&rt);
+    let orders = counter(provider.plan(), "m", "c", &[]).or_fail(&rt);
+    let mut recorder = recorders.pop().expect(&rt, "no recorder");
+    for value in [4, 5] {
+        orders
+            .add(&rt, &provider, &mut recorder, &[], value)
+            .or_fail(&rt);
+    }
+    let totals = totals_of_one(&rt, rt.alloc(), provider, recorder).or_fail(&rt);
+    let mut told = String::new(rt.alloc());
+    for total in &totals.instruments {
+        write!(told, "{} recordings, sum {}", total.count, total.sum).or_fail(&rt);
+    }
+    assert_equal(&rt, told.as_str(), "2 recordings, sum 9");
+}
