@@ -91,7 +91,7 @@ enum wormweekly_answer {
     WORMWEEKLY_BUDGET = 9,
     /* Less is left of the instrument's spare budget than a grant asks for. */
     WORMWEEKLY_NO_SPARE = 14,
-    /* Memory was refused. */
+    /* Out of memory. */
     WORMWEEKLY_MEMORY = 11,
     /* The recorder or reader is of another run, or does not agree with what the instrument has counted. */
     WORMWEEKLY_STRANGER = 12,

@@ -43,7 +43,7 @@ var (
 	ErrUnknownInstrument = &Refusal{Name: "UnknownInstrument", sentence: "the plan has no such instrument"}
 	ErrUnknownRecorder   = &Refusal{Name: "UnknownRecorder", sentence: "the instrument has no such recorder"}
 	ErrInUse             = &Refusal{Name: "InUse", sentence: "another goroutine is using the recorder"}
-	ErrMemory            = &Refusal{Name: "Memory", sentence: "memory was refused"}
+	ErrMemory            = &Refusal{Name: "Memory", sentence: "out of memory"}
 	ErrTooMany           = &Refusal{Name: "TooMany", sentence: "a resource has more than 64 attributes"}
 	ErrEmptyKey          = &Refusal{Name: "EmptyKey", sentence: "an attribute of a resource has an empty key"}
 	ErrBadLabel          = &Refusal{Name: "BadLabel", sentence: "a key of a resource has no letter and no digit, so that its label in a page says nothing"}

@@ -35,8 +35,9 @@ IsMemory (Misused misuse) = ⊥
 IsMemory Memory = Unit {0}
 
 -- # what a refusal by clap is told as, and why words ask for nothing (profile) [TellsKind,
--- IsNoRequest] A call for help or for the version is told as that, out of memory as such, and
--- everything else as a misuse.
+-- IsNoRequest]
+-- A call for help or for the version is told as that, out of memory as such, and everything else as
+-- a misuse.
 abbrev pub TellsKind : ErrorKind → RequestFault → Type 0
 TellsKind DisplayHelp = IsToldOrMemory
 TellsKind DisplayVersion = IsToldOrMemory

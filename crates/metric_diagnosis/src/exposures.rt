@@ -90,7 +90,7 @@ fn words_of(
         ExposureFault::ValueCollision { stream, key } => {
             words_of_key(alloc, pair, streams, (stream, key), SAME_VALUE)
         }
-        ExposureFault::Memory => String::from_str(alloc, "memory was refused"),
+        ExposureFault::Memory => String::from_str(alloc, "out of memory"),
     }
 }
 

@@ -163,10 +163,11 @@ abbrev pub are_own : PlanValue → List Batch → Batch → Bool
 are_own plan kept batch = is_own plan batch && list_all (is_own plan) kept
 
 -- # what a queue does (profile) [HandsIn, TriesAll, is_due, longer, RetriesKept, PassesFlush,
--- PassesShutdown] Batches are exported in order, each once, up to the first that is refused, unless
--- it lets an export pass; what is left is kept, but for the oldest that are more than may be kept,
--- and for a batch for which memory runs out. A new try exports all that is kept at once. Neither
--- does anything where one of these is of another plan.
+-- PassesShutdown]
+-- Batches are exported in order, each once, up to the first that is refused, unless it lets an
+-- export pass; what is left is kept, but for the oldest that are more than may be kept, and for a
+-- batch for which memory runs out. A new try exports all that is kept at once. Neither does anything
+-- where one of these is of another plan.
 pub record HandsIn {E : Type 0}
     (exports : PlanValue → Exporting E)
     (old new : QueuedValue E)

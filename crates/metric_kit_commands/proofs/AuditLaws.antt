@@ -439,8 +439,8 @@ right_longer own i start entries entry before b r = record {
         ap (take (b.mark - mark)) (drop-append-le mark entries (entry ∷ []) (omega (arith, up, within)))
         ∙ take-append-le (b.mark - mark) (drop mark entries) (entry ∷ []) (omega (arith, up, within, length-drop mark entries))
 
--- What a history keeps of an instrument: what its batches say of their reader's mark and time is what the history says, each recording
--- after a reader's mark may follow, and each batch is right.
+-- What a history keeps of an instrument: what its batches say of their reader's mark and time is what the history says,
+-- each recording after a reader's mark may follow, and each batch is right.
 record Keeps (run : RunFacts) (start : ℕ) (i : ℕ) (own : Facts) (entries : List Entry) (batches : List Batch) (mark previous : ℕ → ℕ) : Type 0 where
   marks : (reader : ℕ) → mark_after reader batches ≡ mark reader
   times : (reader : ℕ) → time_after start reader batches ≡ previous reader

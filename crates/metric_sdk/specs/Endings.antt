@@ -48,10 +48,11 @@ CollectsToEnd p now old new batches (Some (Instruments refused)) =
     CollectsEach p now old new batches refused.items × (refused.items ≢ [])
 
 -- # end of a reader, of all (SDK, shutdown) [EndsReader, CollectsToEnd, HandsOn, EndsAll,
--- SettlesAtEnd, EndsClean, EndsSome, HandsOutPlan] A last collection of each instrument, of which
--- the exporter was handed each batch with points in order, up to the first that it refused; the
--- seat, the instruments that were refused and the batches that are left. All readers ended, or none
--- if memory runs out before listing them; then a new try of what the exporter keeps, and a flush.
+-- SettlesAtEnd, EndsClean, EndsSome, HandsOutPlan]
+-- A last collection of each instrument, of which the exporter was handed each batch with points in
+-- order, up to the first that it refused; the seat, the instruments that were refused and the
+-- batches that are left. All readers ended, or none if memory runs out before listing them; then a
+-- new try of what the exporter keeps, and a flush.
 pub record EndsReader {E : Type 0} (p : ProviderValue) (now : ℕ) (exports : Exporting E)
     (old new : E) (seat : CollectorValue) (end : ReaderEnd) : Type 0 where
   pub batches : List Batch

@@ -12,7 +12,7 @@ pub enum SheetFault {
     #[error("the device failed")]
     Write,
     /// Out of memory.
-    #[error("memory was refused")]
+    #[error("out of memory")]
     Memory,
 }
 

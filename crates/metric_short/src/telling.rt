@@ -9,10 +9,10 @@ use toml::{Table, Value};
 pub fn told(alloc: Global, text: &str, fault: ShortFault) -> Result<String, AllocError> {
     match fault {
         ShortFault::NotToml => String::from_str(alloc, "not valid TOML"),
-        ShortFault::Memory => String::from_str(alloc, "memory was refused"),
+        ShortFault::Memory => String::from_str(alloc, "out of memory"),
         ShortFault::At(defect, spot) => match toml::table_from_str(alloc, text) {
             Ok(top) => told_at(alloc, &top, defect, spot),
-            Err(_) => String::from_str(alloc, "memory was refused"),
+            Err(_) => String::from_str(alloc, "out of memory"),
         },
     }
 }

@@ -11,7 +11,7 @@ pub enum SpellingFault {
     #[error("outside the grammar")]
     Bad,
     /// Out of memory.
-    #[error("memory was refused")]
+    #[error("out of memory")]
     Memory,
 }
 

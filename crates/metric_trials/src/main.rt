@@ -1,10 +1,11 @@
 //! Trials: what calls cost, what they answer when out of memory, and a soak of running threads.
 //!
 //! `metric_trials measure PART` prints what recording, collecting, checking and replaying cost (`measures`).
-//! `metric_trials refuse CALL BOOK DATA` makes a call for `tools/refuse-each` (`refusals`). `metric_trials soak --seconds N`
-//! lets recorders and readers work until N seconds have passed (`soak`), with `--lanes L` over instruments of up to L
-//! lanes. `metric_trials allocations` makes recordings between marks, for `tools/watch-allocations`. Without words each
-//! call is made over each book and each data with memory enough, and threads make one short round over each book.
+//! `metric_trials refuse CALL BOOK DATA` makes a call for `tools/refuse-each` (`refusals`).
+//! `metric_trials soak --seconds N` lets recorders and readers work until N seconds have passed (`soak`), with
+//! `--lanes L` over instruments of up to L lanes. `metric_trials allocations` makes recordings between marks, for
+//! `tools/watch-allocations`. Without words each call is made over each book and each data with memory enough, and
+//! threads make one short round over each book.
 #![tactic(auto)]
 
 mod mark;

@@ -1,8 +1,8 @@
 //! What recording, collecting, checking and replaying cost, beside floors measured in the same run.
 //!
-//! `all`, or no word, measures everything; `record`, `histogram`, `collect`, `encode`, `threads`, `check`, `replay`, `audit` and
-//! `memory` a part. `--series`, `--attributes`, `--threads` and `--events` set sizes. Each figure names its unit, and is
-//! the least of several repetitions; of what threads do at once it is the median.
+//! `all`, or no word, measures everything; `record`, `histogram`, `collect`, `encode`, `threads`, `check`, `replay`,
+//! `audit` and `memory` a part. `--series`, `--attributes`, `--threads` and `--events` set sizes. Each figure names its
+//! unit, and is the least of several repetitions; of what threads do at once it is the median.
 
 pub(crate) mod allocations;
 mod audits;

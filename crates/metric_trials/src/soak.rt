@@ -1,12 +1,12 @@
 //! A soak of running threads: recorders and readers that never rest, and at the end every number compared.
 //!
 //! Rounds are made over [`Marked`] and over [`Audited`] in turn, and what they did is printed in numbers. In a round
-//! each recorder, of which there are two more than processors, records in a thread of its own on instruments of one lane
-//! or several, whose streams are bounded by product, by list and by budget. It asks for more where a budget is spent, and
-//! one of them closes an instrument midway. Two readers, one delta and one cumulative, collect all instruments again and
-//! again. Then it is compared: the totals with what each recorder was told, each batch of a reader with the one before
-//! it, the last ones with the totals; over [`Audited`] all batches are audited. Where anything is off, it says what, and
-//! ends with a status other than 0.
+//! each recorder, of which there are two more than processors, records in a thread of its own on instruments of one
+//! lane or several, whose streams are bounded by product, by list and by budget. It asks for more where a budget is
+//! spent, and one of them closes an instrument midway. Two readers, one delta and one cumulative, collect all
+//! instruments again and again. Then it is compared: the totals with what each recorder was told, each batch of a
+//! reader with the one before it, the last ones with the totals; over [`Audited`] all batches are audited. Where
+//! anything is off, it says what, and ends with a status other than 0.
 
 mod ends;
 mod figures;

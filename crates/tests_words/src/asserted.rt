@@ -1,7 +1,7 @@
 //! What a test asserts: that a condition is true, that two values are equal, and that a call succeeds.
 //!
-//! Calls of their own: the steps of comparing and printing stand once in the proof, and not in each test, and a test that
-//! ends where a call fails has no way out on which it drops all that it holds.
+//! Calls of their own: the steps of comparing and printing stand once in the proof, and not in each test, and a test
+//! that ends where a call fails has no way out on which it drops all that it holds.
 ghost use Rattle.std.specs.Prelude.{◌≡◌, Ok};
 
 use std::fmt::Debug;

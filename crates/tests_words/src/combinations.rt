@@ -1,4 +1,5 @@
-//! Allowed combinations: which sets are among the rows, which rows stand twice, and what is left where keys are not kept.
+//! Allowed combinations: which sets are among the rows, which rows stand twice, and what is left where keys are not
+//! kept.
 use crate::asserted::{OrFail, assert_equal, assert_true};
 use metric_base::{Copied, is_same};
 use metric_combinations::{CombinationRows, Combinations, permits, restrict};

@@ -1,7 +1,7 @@
 //! Tests of the crates that read and write words: devices, lists, names, fields, spellings, parts, command lines.
 //!
-//! A module tests one crate through its public surface. It has what no clause says: examples from outside, printed texts,
-//! and that a call succeeds while memory is there.
+//! A module tests one crate through its public surface. It has what no clause says: examples from outside, printed
+//! texts, and that a call succeeds while memory is there.
 #![tactic(auto)]
 
 #[cfg(test)]

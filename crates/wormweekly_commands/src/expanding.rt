@@ -98,7 +98,7 @@ fn stop_short<E: Sink>(
 {
     let _told = match told_short(alloc, files, source, fault) {
         Ok(text) => print(errors, text.as_str()),
-        Err(_) => print(errors, "memory was refused\n"),
+        Err(_) => print(errors, "out of memory\n"),
     };
     match fault {
         ShortFault::Memory => 4,

@@ -39,7 +39,7 @@ impl Unread {
             Unread::Unexpanded => {
                 "it is a catalogue of format 3 with a fault, which 'wormweekly expand' tells"
             }
-            Unread::Memory => "memory was refused",
+            Unread::Memory => "out of memory",
         }
     }
 }

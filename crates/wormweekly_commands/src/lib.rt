@@ -2,8 +2,8 @@
 //!
 //! [`run_request`] is the whole program but for its devices. Each command first reads its files, and then makes its
 //! answer or stops with the first fault, before it writes anything; only a replay writes while it runs, as
-//! `metric_kit_commands` does. Its parts are read, made and checked by the calls of the commands of `metric_kit`, and the
-//! contracts cite the definitions of these.
+//! `metric_kit_commands` does. Its parts are read, made and checked by the calls of the commands of `metric_kit`, and
+//! the contracts cite the definitions of these.
 #![tactic(auto)]
 
 mod answer;

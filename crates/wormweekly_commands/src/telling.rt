@@ -49,7 +49,7 @@ pub(crate) fn tell_line<W: Sink, E: Sink>(fault: RequestFault, sink: &mut W, err
         RequestFault::Nothing => misused("no command is named; try 'wormweekly --help'\n", errors),
         RequestFault::Misused(misuse) => misused(words_of(misuse), errors),
         RequestFault::Memory => {
-            let _told = print(errors, "memory was refused\n");
+            let _told = print(errors, "out of memory\n");
             4
         }
     }
@@ -105,7 +105,7 @@ pub(crate) fn stop<E: Sink>(
 {
     let _told = match told(alloc, request, texts, fault) {
         Ok(text) => print(errors, text.as_str()),
-        Err(_) => print(errors, "memory was refused\n"),
+        Err(_) => print(errors, "out of memory\n"),
     };
     fault.status()
 }
@@ -121,7 +121,7 @@ pub(crate) fn warn<E: Sink>(
     let _told = match answer {
         Answer::Streams(listing) => match warnings_of(alloc, &request.files, texts, listing) {
             Ok(text) => print(errors, text.as_str()),
-            Err(_) => print(errors, "memory was refused\n"),
+            Err(_) => print(errors, "out of memory\n"),
         },
         _ => Ok(()),
     };

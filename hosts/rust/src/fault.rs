@@ -52,7 +52,7 @@ pub enum Refusal {
     Budget,
     /// Less is left of the instrument's spare budget than a grant asks for.
     NoSpare,
-    /// Memory was refused.
+    /// Out of memory.
     Memory,
     /// The recorder or reader is of another run.
     Stranger,
@@ -126,7 +126,7 @@ impl fmt::Display for Refusal {
             Refusal::Closed => write!(f, "the instrument is closed"),
             Refusal::Budget => write!(f, "the recorder's budget is spent"),
             Refusal::NoSpare => write!(f, "less is left of the spare budget than is asked for"),
-            Refusal::Memory => write!(f, "memory was refused"),
+            Refusal::Memory => write!(f, "out of memory"),
             Refusal::Stranger => write!(f, "the recorder or reader is of another run"),
             Refusal::Other(code) => write!(f, "the library answered {code}"),
         }
@@ -159,7 +159,7 @@ pub enum OpenFault {
     /// The catalogue or the config is at fault, or the two are not safe together: the first fault, with its place, as
     /// `catalogue:7:1: instrument 0 "orders": unknown kind "guage"; ..`.
     Fault(String),
-    /// Memory was refused.
+    /// Out of memory.
     Memory,
     /// The library answered a number that this crate does not know.
     Other(u32),
@@ -169,7 +169,7 @@ impl fmt::Display for OpenFault {
     fn fmt(&self, f: &mut fmt::Formatter<'_>) -> fmt::Result {
         match self {
             OpenFault::Fault(text) => write!(f, "{text}"),
-            OpenFault::Memory => write!(f, "memory was refused"),
+            OpenFault::Memory => write!(f, "out of memory"),
             OpenFault::Other(code) => write!(f, "the library answered {code}"),
         }
     }
@@ -187,7 +187,7 @@ pub enum SettleFault {
     RecorderMissing,
     /// An instrument's state is not what its recorders were told.
     AuditMismatch,
-    /// Memory was refused.
+    /// Out of memory.
     Memory,
     /// The library answered a number that this crate does not know.
     Other(u32),
@@ -216,7 +216,7 @@ impl fmt::Display for SettleFault {
                     "an instrument's state is not what its recorders were told"
                 )
             }
-            SettleFault::Memory => write!(f, "memory was refused"),
+            SettleFault::Memory => write!(f, "out of memory"),
             SettleFault::Other(code) => write!(f, "the library answered {code}"),
         }
     }
@@ -258,7 +258,7 @@ pub enum ResourceFault {
     BadLabel,
     /// Two keys have one label in a page, as `a.b` and `a_b` have.
     LabelCollision,
-    /// Memory was refused.
+    /// Out of memory.
     Memory,
     /// The library answered a number that this crate does not know.
     Other(u32),
@@ -286,7 +286,7 @@ impl fmt::Display for ResourceFault {
             ResourceFault::RepeatedKey => write!(f, "a key of a resource stands twice"),
             ResourceFault::BadLabel => write!(f, "a key of a resource has no letter and no digit"),
             ResourceFault::LabelCollision => write!(f, "two keys of a resource have one label"),
-            ResourceFault::Memory => write!(f, "memory was refused"),
+            ResourceFault::Memory => write!(f, "out of memory"),
             ResourceFault::Other(code) => write!(f, "the library answered {code}"),
         }
     }
@@ -300,7 +300,7 @@ impl std::error::Error for ResourceFault {}
 pub enum ExposureFault {
     /// The first fault, with its stream: samples of a page would be lost without a word, or the page would be refused.
     Fault(String),
-    /// Memory was refused.
+    /// Out of memory.
     Memory,
     /// The library answered a number that this crate does not know.
     Other(u32),
@@ -310,7 +310,7 @@ impl fmt::Display for ExposureFault {
     fn fmt(&self, f: &mut fmt::Formatter<'_>) -> fmt::Result {
         match self {
             ExposureFault::Fault(text) => write!(f, "{text}"),
-            ExposureFault::Memory => write!(f, "memory was refused"),
+            ExposureFault::Memory => write!(f, "out of memory"),
             ExposureFault::Other(code) => write!(f, "the library answered {code}"),
         }
     }

@@ -74,9 +74,9 @@ class SettleRefusal(Refusal):
 
 
 class MemoryRefusal(Refusal, MemoryError):
-    """Memory was refused."""
+    """Out of memory."""
 
-    names = {11: ("Memory", "memory was refused")}
+    names = {11: ("Memory", "out of memory")}
 
 
 class ResourceRefusal(Refusal, ValueError):
