@@ -1,5 +1,5 @@
 -- Lists with an element for each number below a bound.
-use Rattle.std.proofs.Common.{◌≡◌, ℕ, zero, suc, ◌+◌, ◌<◌, ◌≤◌, List, [], ◌∷◌, ◌++◌, length, get_or, take, drop, fold, map, Some, append_assoc, refl, sym, ap, subst, ◌∙◌, arith, take_all, inl, inr, length-append}
+use Rattle.std.proofs.Common.{◌≡◌, ℕ, zero, suc, ◌+◌, ◌<◌, ◌≤◌, List, [], ◌∷◌, ◌++◌, length, get_or, take, drop, fold, map, Some, refl, sym, ap, subst, ◌∙◌, arith, take_all, inl, inr, length-append}
 use Rattle.std.specs.Prelude.{slice_get}
 use Rattle.std.specs.List.{AllZip, enumerate_from, flat_map, range_with_len}
 use Rattle.std.proofs.lemmas.List.{append-nil, get_or_append_left, length-take-le, take-append-le, take_more}
@@ -8,6 +8,7 @@ use Rattle.std.proofs.lemmas.List.FromFn.{get_or-map-range_with_len, length-map-
 use Rattle.std.proofs.lemmas.Option.{slice_get_read}
 use Rattle.std.proofs.lemmas.Bool.{cases_lt}
 use Rattle.std.proofs.Math.Seq.{get_or-append_seam}
+use Rattle.metric_resolve.proofs.Numbers.{append_twice}
 
 -- a fact of each element and its number
 pub numbered_all : {B : Type 0} (R : ℕ → B → Type 0) (a n : ℕ) (ys : List B) (d : B) → length ys ≡ n → ((i : ℕ) → i < n → R (a + i) (get_or ys i d)) → AllZip R (range_with_len a n) ys
@@ -49,29 +50,6 @@ written_back len new old same is =
 pub each_below : {B : Type 0} (R : ℕ → B → Type 0) (n : ℕ) (ys : List B) (d : B) → length ys ≡ n → ((i : ℕ) → i < n → R i (get_or ys i d)) → AllZip R (range_with_len 0 n) ys
 each_below R n ys d long each =
     numbered_all R 0 n ys d long (λ i less. (let is : i ≡ 0 + i = omega arith in subst (λ (k : ℕ). R k (get_or ys i d)) is (each i less)))
-
--- the numbers below one more
-range_more_from : (a n j : ℕ) → a + n ≡ j → range_with_len a (n + 1) ≡ range_with_len a n ++ j ∷ []
-range_more_from a zero j e = let same : a ≡ j = omega arith in ap (λ x. x ∷ []) same
-range_more_from a (suc n) j e =
-    let longer : suc n + 1 ≡ suc (n + 1) = omega arith in
-    rw longer (ap (λ xs. a ∷ xs) (range_more_from (a + 1) n j (omega arith)))
-
-pub range_more : (n : ℕ) → range_with_len 0 (n + 1) ≡ range_with_len 0 n ++ n ∷ []
-range_more n = range_more_from 0 n n (omega arith)
-
--- two appends in a row
-pub append_twice : {A : Type 0} (old now next part more whole : List A) → now ≡ old ++ part → next ≡ now ++ more → whole ≡ part ++ more → next ≡ old ++ whole
-append_twice old now next part more whole before after joined =
-    after ∙ ap (λ xs. xs ++ more) before ∙ append_assoc old part more ∙ ap (λ xs. old ++ xs) (sym joined)
-
--- one number more
-flat_map_more : {A : Type 0} (f : ℕ → List A) (n : ℕ) → flat_map f (range_with_len 0 (n + 1)) ≡ flat_map f (range_with_len 0 n) ++ f n
-flat_map_more f n =
-    ap (flat_map f) (range_more n) ∙ flat_map-append f (range_with_len 0 n) (n ∷ []) ∙ ap (λ xs. flat_map f (range_with_len 0 n) ++ xs) (append-nil (f n))
-
-pub flat_map_turn : {A : Type 0} (f : ℕ → List A) (n : ℕ) (old now next : List A) → now ≡ old ++ flat_map f (range_with_len 0 n) → next ≡ now ++ f n → next ≡ old ++ flat_map f (range_with_len 0 (n + 1))
-flat_map_turn f n old now next before after = append_twice old now next _ (f n) _ before after (flat_map_more f n)
 
 -- one element more, with its number
 pub enumerate_take : {X : Type 0} (xs : List X) (n : ℕ) (x : X) → n < length xs → x ≡ get_or xs n x

@@ -5,5 +5,4 @@ mod SoundRows
 mod SoundInstruments
 mod PlainFiles
 mod Rows
-mod EachMore
 mod SoundCatalogues

@@ -25,7 +25,8 @@ use Rattle.metric_cert.specs.Orders.{order_of}
 use Rattle.metric_cert.specs.Reading.{decimal_of, list_of, needed, optional, signed_decimal_of, whole_of}
 use Rattle.metric_cert.specs.Reasons.{PutsEvidence, evidence_of, reason_of}
 use Rattle.metric_cert.specs.Streams.{PutsList, by_of, stream_of}
-use Rattle.metric_cert.specs.Writing.{IsPrintable, Puts, PutsGiven, with_member}
+use Rattle.metric_cert.specs.Writing.{IsPrintable, Puts, PutsGiven}
+use Rattle.metric_table.specs.Members.{with_member}
 
 criterion_read : (criterion : Criterion) → criterion_of (string (criterion_name criterion)) ≡ Ok criterion
 unfolding criterion_of text_of

@@ -1,13 +1,10 @@
 -- What is written is read as itself.
-use Rattle.std.proofs.Common.{ℤ, pos, true, nat_lt, ◌≡◌, ℕ, ◌+◌, ◌≤◌, ◌<◌, ◌^◌, List, [], ◌∷◌, ◌++◌, ◌==◌, length, map, Result, Ok, Err, String, Global, Ordering, Less, Equal, Greater, string_bytes, refl, ap, arith, lit≤}
+use Rattle.std.proofs.Common.{ℤ, pos, true, nat_lt, ◌≡◌, ℕ, ◌+◌, ◌≤◌, ◌<◌, ◌^◌, List, [], ◌∷◌, ◌++◌, ◌==◌, length, map, Result, Ok, Err, refl, ap, arith, lit≤}
 use Rattle.std.specs.Prelude.{FitsSigned}
 use Rattle.std.specs.Int.{w128}
-use Rattle.std.specs.BTreeMap.{insert_entry}
 use Rattle.std.specs.Fmt.{decimal, signed_decimal}
-use Rattle.std.specs.Ordering.{match_ordering}
-use Rattle.std.specs.String.{string_cmp}
-use Rattle.toml.specs.Data.{Data, Members, member, integer, string, array, table, depth, items_depth}
-use Rattle.toml.specs.View.{items_of, items_view, members_view, view}
+use Rattle.toml.specs.Data.{Data, Members, integer, string, array, table, depth, items_depth}
+use Rattle.toml.specs.View.{items_of, items_view, view}
 use Rattle.toml.specs.declared.value.Value.{Value}
 use Rattle.toml.proofs.Views.{Entry, items_are_sorted-last}
 use Rattle.std.proofs.lemmas.Bool.{eq-eqb}
@@ -23,7 +20,7 @@ use Rattle.metric_cert.proofs.Spelled.{wide_of-text}
 use Rattle.metric_cert.specs.Places.{at}
 use Rattle.metric_cert.specs.Reading.{decimal_of, entries_as, entry_as, list_of, signed_decimal_of, table_as, values_of, whole_of}
 use Rattle.metric_cert.specs.Streams.{set_key_of}
-use Rattle.metric_cert.specs.Writing.{IsPrintable, with_member}
+use Rattle.metric_cert.specs.Writing.{IsPrintable}
 
 pub decimal_of-decimal : (n : ℕ) → n < 2 ^ 64 → decimal_of (string (decimal n)) ≡ Ok n
 unfolding decimal_of text_of
@@ -127,19 +124,3 @@ printable-last values v levels old new =
 pub printable-push : (values longer : List Value) (v : Value) (levels : ℕ) → longer ≡ values ++ v ∷ [] → IsPrintable (levels + 1) (array (items_view values))
     → IsPrintable levels (view v) → IsPrintable (levels + 1) (array (items_view longer))
 printable-push values longer v levels grown old new = rw grown (printable-last values v levels old new)
-
--- a map of a table with one more entry
-with_entry : (o : Ordering) (k : String Global) (v : Value) (e : Entry) (es : List Entry)
-    → members_view (insert_entry string_cmp es k v) ≡ with_member (string_bytes k) (view v) (members_view es)
-    → members_view (match_ordering o ((k, v) ∷ e ∷ es) ((e.0, v) ∷ es) (e ∷ insert_entry string_cmp es k v))
-    ≡ match_ordering o (member (string_bytes k) (view v) (members_view (e ∷ es))) (member (string_bytes e.0) (view v) (members_view es)) (member (string_bytes e.0) (view e.1) (with_member (string_bytes k) (view v) (members_view es)))
-with_entry Less k v e es ih = refl
-with_entry Equal k v e es ih = refl
-with_entry Greater k v e es ih = ap (member (string_bytes e.0) (view e.1)) ih
-
-pub members_view-insert : (k : String Global) (v : Value) (es : List Entry)
-    → members_view (insert_entry string_cmp es k v) ≡ with_member (string_bytes k) (view v) (members_view es)
-members_view-insert k v [] = refl
-members_view-insert k v (e ∷ es) = with_entry (string_cmp k e.0) k v e es (members_view-insert k v es)
-
-pub ruleset entry_laws = (members_view-insert)

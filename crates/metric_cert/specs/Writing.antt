@@ -1,16 +1,8 @@
 -- What is written into a table.
 use Rattle.std.specs.Prelude.{◌≡◌, ℕ, ◌≤◌, true, List, Option, Some, None, Result, Ok}
-use Rattle.std.specs.Cmp.Lexicographic.{slice_cmp}
-use Rattle.std.specs.Ordering.{nat_cmp, match_ordering}
-use Rattle.toml.specs.Data.{Data, Members, no_members, member, depth, is_sorted}
+use Rattle.toml.specs.Data.{Data, Members, depth, is_sorted}
+use Rattle.metric_table.specs.Members.{with_member}
 use Rattle.metric_cert.specs.declared.fault.CertFault.{CertFault}
-
--- a table with one more field, which stands in the order of names
-abbrev pub with_member : List ℕ → Data → Members → Members
-with_member name d no_members = member name d no_members
-with_member name d (member other e fields) =
-    match_ordering (slice_cmp nat_cmp name other) (member name d (member other e fields))
-    (member other d fields) (member other e (with_member name d fields))
 
 -- What is printed can be read back: it nests no deeper than so many levels, and
 -- the names of each table ascend.

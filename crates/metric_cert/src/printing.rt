@@ -7,8 +7,8 @@ ghost use Rattle.metric_cert.specs.Reading.{table_as};
 use crate::entry::EntryKind;
 use crate::fields::{Fields, TableEntry};
 use crate::lists::listed;
-use crate::tables::{empty_table, insert};
 use metric_base::Items;
+use metric_table::{empty_table, insert};
 use std::alloc::{AllocError, Global};
 use toml::Value;
 

@@ -1,16 +1,15 @@
 //! The fields of a table, read and written.
-ghost use Rattle.std.specs.Prelude.{◌≡◌, OnOk, string_bytes};
-ghost use Rattle.toml.specs.Data.{no_members, table as table_data};
-ghost use Rattle.toml.specs.View.{table_view, view};
+ghost use Rattle.std.specs.Prelude.{OnOk};
+ghost use Rattle.toml.specs.View.{table_view};
 ghost use Rattle.metric_base.specs.Steps.{Gives};
 ghost use Rattle.metric_cert.specs.Reading.{needed, optional};
-ghost use Rattle.metric_cert.specs.Writing.{Puts, PutsGiven, with_member};
+ghost use Rattle.metric_cert.specs.Writing.{Puts, PutsGiven};
 
 use crate::entry::EntryKind;
 use crate::fault::{CertFault, shape_faults};
-use metric_table::{member, required};
+use metric_table::{insert, member, required};
 use std::alloc::{AllocError, Global};
-use toml::{Table, Value};
+use toml::Table;
 
 /// What a needed field stands for.
 #[tactic(auto, unfolding(crate::specs::Reading::needed))]
@@ -43,20 +42,6 @@ pub(crate) fn optional<E: EntryKind>(
     }
 }
 
-/// A table with no field.
-pub(crate) fn empty_table(alloc: Global) -> Table
-    ensures { table_view result ≡ no_members }
-{
-    Table::new(alloc)
-}
-
-/// The value that is a table.
-pub(crate) fn tabled(table: Table) -> Value
-    ensures { view result ≡ table_data (table_view table) }
-{
-    Value::Table(table)
-}
-
 /// Puts a field that the table does not have.
 pub(crate) fn put<E: EntryKind>(
     alloc: Global,
@@ -86,13 +71,4 @@ pub(crate) fn put_given<E: EntryKind>(
         Some(entry) => put::<E>(alloc, table, name, entry),
         None => Ok(()),
     }
-}
-
-/// Puts a value into a table.
-pub(crate) fn insert(table: &mut Table, key: String, value: Value) -> Result<(), AllocError>
-    ensures { OnOk result (table_view table.new
-        ≡ with_member (string_bytes key) (view value) (table_view table.old)) }
-{
-    table.insert(key, value)?;
-    Ok(())
 }

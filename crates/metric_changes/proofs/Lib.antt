@@ -1,4 +1,3 @@
-mod Claims
 mod Got
 mod Lists
 mod Told

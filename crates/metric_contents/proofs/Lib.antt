@@ -1,6 +1,7 @@
 mod Words
 mod Numbered
 mod OrderLaws
-mod InOrderLaws
+pub mod InOrderLaws
 mod Differing
 mod Mapped
+pub mod Claims

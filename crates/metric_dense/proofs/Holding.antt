@@ -1,45 +1,25 @@
 -- A stream that has room for each series that there can be holds each series of its recordings, and none overflows.
-use Rattle.std.proofs.Common.{◌≡◌, ℕ, zero, suc, ◌+◌, ◌-◌, ◌≤◌, ◌<◌, Bool, true, false, not, ◌||◌, cond, All, List, [], ◌∷◌, ◌++◌, None, length, get_or, refl, sym, ap, subst, ◌∙◌, arith}
-use Rattle.std.specs.Prelude.{fold}
+use Rattle.std.proofs.Common.{◌≡◌, ℕ, zero, suc, ◌+◌, ◌-◌, ◌≤◌, ◌<◌, Bool, true, false, not, ◌||◌, cond, All, List, [], ◌∷◌, None, length, get_or, refl, sym, ap, subst, ◌∙◌, arith}
 use Rattle.std.specs.Cmp.Lexicographic.{nat_list_eq_equiv}
-use Rattle.std.specs.List.{IsDistinct, list_any}
+use Rattle.std.specs.List.{list_any}
 use Rattle.std.specs.Str.{bytes_eq}
 use Rattle.std.proofs.lemmas.Bool.{or_right, true≢false}
 use Rattle.std.proofs.lemmas.List.{take_all}
 use Rattle.std.proofs.lemmas.List.Elements.{All-head, All-tail}
 use Rattle.std.proofs.lemmas.List.Folds.{list_any_none}
-use Rattle.std.proofs.lemmas.Map.Keys.{IsDistinct-push}
 use Rattle.std.proofs.lemmas.Map.Made.{length-le_from_is_member}
 use Rattle.metric_facts.specs.declared.facts.KeyFacts.{KeyFacts}
 use Rattle.metric_history.specs.declared.entry.Entry.{Entry}
 use Rattle.metric_history.specs.Points.{overflow, point}
 use Rattle.metric_combinations.specs.Restrictions.{restricted}
-use Rattle.metric_history.specs.Series.{all_series, belongs, distinct, found_with, has, held, series}
+use Rattle.metric_history.specs.Series.{all_series, belongs, distinct, has, held, series}
+use Rattle.metric_history.proofs.Distinct.{distinct_once, flipped}
 use Rattle.metric_history.specs.SeriesLaws.{has-distinct, has_own_series, key_is_same, same_key}
 use Rattle.metric_views.specs.declared.stream.Stream.{Stream}
 use Rattle.metric_facts.specs.Products.{product_of}
 use Rattle.metric_facts.specs.Ranks.{rank, rank_below}
 use Rattle.metric_dense.specs.Ranks.{series_of, IsRanked, IsTaken}
 use Rattle.metric_dense.proofs.Ranking.{rank_unrank, unrank_rank}
-
--- ---- no series stands twice among the distinct ones
-
-flipped : (key : List ℕ) (keys : List (List ℕ)) → list_any (bytes_eq key) keys ≡ has keys key
-flipped key [] = refl
-flipped key (k ∷ keys) =
-    ap (λ (b : Bool). b || list_any (bytes_eq key) keys) (nat_list_eq_equiv.symm key k) ∙ ap (λ (b : Bool). bytes_eq k key || b) (flipped key keys)
-
-once_found : (keys found : List (List ℕ)) → IsDistinct bytes_eq found → IsDistinct bytes_eq (fold found_with found keys)
-once_found [] found once = once
-once_found (x ∷ keys) found once = once_found keys (found_with found x) (at (has found x) refl)
-  where
-    at : (b : Bool) → has found x ≡ b → IsDistinct bytes_eq (cond b found (found ++ x ∷ []))
-    at true e = once
-    at false e = IsDistinct-push nat_list_eq_equiv found x once (flipped x found ∙ e)
-
-pub distinct_once : (keys : List (List ℕ)) → IsDistinct bytes_eq (distinct keys)
-unfolding IsDistinct
-distinct_once keys = once_found keys [] tt
 
 -- ---- the series of ranks
 

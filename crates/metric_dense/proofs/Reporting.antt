@@ -3,22 +3,20 @@ use Rattle.std.proofs.Common.{◌≡◌, Ordering, Less, Equal, Greater, ℕ, ze
 use Rattle.std.specs.Prelude.{filter, ◌==◌}
 use Rattle.std.specs.BTreeMap.{is_at}
 use Rattle.std.specs.Cmp.{nat_cmp_is}
-use Rattle.std.specs.Cmp.Lexicographic.{nat_list_eq_equiv, slice_cmp}
+use Rattle.std.specs.Cmp.Lexicographic.{slice_cmp}
 use Rattle.std.specs.List.{AllByRecursion, IsDistinct, list_any}
 use Rattle.std.specs.List.Sorted.{IsStrictlySortedBy}
-use Rattle.std.specs.Ordering.{is_eq, is_lt, nat_cmp, ordering_reverse}
+use Rattle.std.specs.Ordering.{is_eq, nat_cmp}
 use Rattle.std.specs.Str.{bytes_eq}
 use Rattle.std.proofs.lemmas.Bool.{ne_eqb, or_right, true≢false}
 use Rattle.std.proofs.lemmas.Cmp.{nat_list_cmp_total}
 use Rattle.std.proofs.lemmas.List.{append-nil, length-map, length-take, map_push, take_all, take_more}
 use Rattle.std.proofs.lemmas.List.Sorted.{list_any-IsPermutation}
-use Rattle.std.proofs.lemmas.Map.Keys.{IsDistinct-IsPermutation, apart_from_distinct, sorted_from_all_adjacent}
 use Rattle.std.proofs.lemmas.Map.Lookups.{btree_set_from_contains, exact_bytes}
 use Rattle.metric_aggregate.specs.declared.aggregate.Aggregate as aggregate
 use Rattle.metric_aggregate.specs.Aggregation.{Aggregation}
 use Rattle.metric_aggregate.specs.Value.{value_of}
 use Rattle.metric_facts.specs.declared.facts.KeyFacts.{KeyFacts}
-use Rattle.metric_history.specs.AscendingLaws.{ascending-IsSorted}
 use Rattle.metric_history.specs.declared.batch.Point.{Point}
 use Rattle.metric_history.specs.declared.entry.Entry.{Entry}
 use Rattle.metric_history.specs.PointLaws.{ascending-IsPermutation}
@@ -31,25 +29,9 @@ use Rattle.metric_facts.specs.Products.{product_of}
 use Rattle.metric_facts.specs.Ranks.{rank}
 use Rattle.metric_dense.specs.Ranks.{series_of}
 use Rattle.metric_dense.specs.DenseTables.{DenseValue, StandsDense}
-use Rattle.metric_dense.proofs.Holding.{all_held, all_placed, distinct_once, has_held, none_over, IsPlaced}
+use Rattle.metric_history.proofs.Distinct.{ascending_rises, distinct_once}
+use Rattle.metric_dense.proofs.Holding.{all_held, all_placed, has_held, none_over, IsPlaced}
 use Rattle.metric_dense.proofs.Ranking.{list_itself, unrank_ordered}
-
--- ---- distinct keys in ascending order rise strictly
-
-rises : (a b : List ℕ) → is_lt (slice_cmp nat_cmp b a) ≡ false → bytes_eq a b ≡ false → slice_cmp nat_cmp a b ≡ Less
-rises a b up apart = at (slice_cmp nat_cmp a b) refl
-  where
-    at : (order : Ordering) → slice_cmp nat_cmp a b ≡ order → slice_cmp nat_cmp a b ≡ Less
-    at Less e = e
-    at Equal e = absurd (true≢false (sym (key_is_same a) ∙ ap (bytes_eq a) (exact_bytes a b e) ∙ apart))
-    at Greater e = absurd (true≢false (sym (ap is_lt (nat_list_cmp_total.antisymm b a ∙ ap ordering_reverse e)) ∙ up))
-
-ascending_rises : (keys : List (List ℕ)) → IsDistinct bytes_eq keys → IsStrictlySortedBy (slice_cmp nat_cmp) (ascending keys)
-ascending_rises keys once =
-    let apart : IsDistinct bytes_eq (ascending keys) = IsDistinct-IsPermutation bytes_eq nat_list_eq_equiv.symm keys (ascending keys) (ascending-IsPermutation keys) once in
-    sorted_from_all_adjacent nat_list_cmp_total (ascending keys) []
-    (λ k below. rises (get_or (ascending keys) k []) (get_or (ascending keys) (k + 1) []) (ascending-IsSorted keys k [] (omega arith) below)
-    (apart_from_distinct bytes_eq (ascending keys) k (k + 1) [] apart (omega arith) below))
 
 both_ways : (a b : Bool) → (a ≡ true → b ≡ true) → (b ≡ true → a ≡ true) → a ≡ b
 both_ways true b there back = sym (there refl)

@@ -1,8 +1,7 @@
 -- One more element of a list that is gone through.
-use Rattle.std.proofs.Common.{◌≡◌, ℕ, ◌+◌, ◌<◌, All, List, [], ◌∷◌, ◌++◌, length, map, drop, get_or, Result, Ok, sym, ap, subst, refl, ◌∙◌}
+use Rattle.std.proofs.Common.{◌≡◌, ℕ, ◌+◌, ◌<◌, All, List, [], ◌∷◌, ◌++◌, length, map, drop, get_or, sym, ap, refl, ◌∙◌}
 use Rattle.std.proofs.lemmas.List.Elements.{All-push}
-use Rattle.std.proofs.lemmas.List.{append_assoc, at_drop_more, length_push}
-use Rattle.metric_base.specs.Steps.{◌>>=◌, each}
+use Rattle.std.proofs.lemmas.List.{append_assoc, at_drop_more}
 
 -- what is to come of the elements that are left is what was to come
 pub goes_on : {T R : Type 0} (F G : List T → R) (ts : List T) (i : ℕ) (t : T) → i < length ts → t ≡ get_or ts i t
@@ -34,18 +33,3 @@ pieces_more {T} {Y} F G done more piece ts i t within is put step =
 -- a fact of each element holds with one more
 pub all_more : {X : Type 0} (P : X → Type 0) (done more : List X) (x : X) → more ≡ done ++ x ∷ [] → All P done → P x → All P more
 all_more P done more x put all one = rw put (All-push P done x all one)
-
--- the list is one longer
-pub one_longer : {Y : Type 0} (done more : List Y) (y : Y) (n : ℕ) → more ≡ done ++ y ∷ [] → length done ≡ n → length more ≡ n + 1
-one_longer {Y} done more y n put count = ap (λ (ys : List Y). length ys) put ∙ length_push done y ∙ ap (λ (m : ℕ). m + 1) count
-
--- with the element that the step gave, those that are left give what they gave before
-pub each_more : {T X Y E : Type 0} (step : List Y → X → Result Y E) (seen_as : T → X) (done before more : List Y) (ts : List T) (i : ℕ) (t : T) (y : Y)
-    → i < length ts → t ≡ get_or ts i t → before ≡ done → step before (seen_as t) ≡ Ok y → more ≡ done ++ y ∷ []
-    → each step more (map seen_as (drop (i + 1) ts)) ≡ each step done (map seen_as (drop i ts))
-each_more {T} {X} {Y} {E} step seen_as done before more ts i t y within is same made put =
-    let first = subst (λ (ys : List Y). step ys (seen_as t) ≡ Ok y) same made in
-    ap (λ (ys : List Y). each step ys (map seen_as (drop (i + 1) ts))) put
-    ∙ sym (ap (λ (r : Result Y E). (r >>= λ next. Ok (done ++ next ∷ [])) >>= λ ys. each step ys (map seen_as (drop (i + 1) ts))) first)
-    ∙ ap (λ (u : T). each step done (map seen_as (u ∷ drop (i + 1) ts))) is
-    ∙ sym (at_drop_more (λ (rest : List T). each step done (map seen_as rest)) ts i t within)

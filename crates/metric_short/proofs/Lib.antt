@@ -1,4 +1,3 @@
-pub mod Members
 pub mod Seen
 pub mod FieldNames
 mod EachMore

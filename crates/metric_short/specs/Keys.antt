@@ -14,7 +14,8 @@ use Rattle.metric_short.specs.declared.fault.ShortPlace.TheVariants as place
 use Rattle.metric_short.specs.declared.fault.ShortField.TheVariants as fields
 use Rattle.metric_short.specs.declared.fault.ShortSpot.{ShortSpot}
 use Rattle.metric_short.specs.Faults.{faults_at, field_at}
-use Rattle.metric_short.specs.Members.{array_of, with_member}
+use Rattle.metric_short.specs.Members.{array_of}
+use Rattle.metric_table.specs.Members.{with_member}
 use Rattle.metric_short.specs.Texts.{label_field}
 
 -- the fields of a declared key

@@ -8,7 +8,8 @@ use Rattle.toml.specs.Data.{Data, string, integer, table as table_data, Members,
 use Rattle.metric_short.specs.declared.recorders.Recorded.{Recorded}
 use Rattle.metric_short.specs.Instruments.{key_with}
 use Rattle.metric_short.specs.Keys.{ShortKey}
-use Rattle.metric_short.specs.Members.{array_of, list_within, with_member}
+use Rattle.metric_short.specs.Members.{array_of, list_within}
+use Rattle.metric_table.specs.Members.{with_member}
 
 -- # entries of a list, rewritten (profile) [with_entries]
 -- The table in which each value of a list that is a field is another; it is the same where the field is no list.

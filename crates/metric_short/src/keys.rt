@@ -13,10 +13,10 @@ ghost use Rattle.metric_short.specs.Seen.{key_view};
 use crate::fault::{
     ShortDefect, ShortFault, ShortField, ShortPlace, ShortSpot, faults_at, unknown_at,
 };
-use crate::tables::{copied, empty_table, listed, put, tabled, worded};
+use crate::tables::{copied, listed, put, worded};
 use crate::texts::label_field;
 use metric_base::{Items, Text};
-use metric_table::{list_of, member, only, optional_text, required};
+use metric_table::{empty_table, list_of, member, only, optional_text, required, tabled};
 use std::alloc::{AllocError, Global};
 use toml::{Table, Value};
 

@@ -10,8 +10,9 @@ use crate::instruments::key_with;
 use crate::keys::ShortKey;
 use crate::recorders::Recorded;
 use crate::rewriting::{Rewrite, rewrite_all, table_with};
-use crate::tables::{copied, empty_table, listed, put, tabled, whole, worded};
+use crate::tables::{copied, listed, put, whole, worded};
 use metric_base::{Items, Text};
+use metric_table::{empty_table, tabled};
 use std::alloc::{AllocError, Global};
 use toml::{Table, Value};
 

@@ -5,9 +5,9 @@ ghost use Rattle.toml.specs.Data.{table as table_data};
 ghost use Rattle.toml.specs.View.{table_view, view};
 ghost use Rattle.metric_short.specs.Meaning.{rewritten, table_with, with_entries};
 
-use crate::tables::{copied, list_within, listed, put, tabled};
+use crate::tables::{copied, list_within, listed, put};
 use metric_base::Items;
-use metric_table::member;
+use metric_table::{member, tabled};
 use std::alloc::{AllocError, Global};
 use toml::{Table, Value};
 

@@ -1,22 +1,16 @@
-//! Tables and lists of TOML, made.
-ghost use Rattle.std.specs.Prelude.{◌≡◌, map, string_bytes, IfOk, OnOk};
+//! Fields and lists of TOML, made.
+ghost use Rattle.std.specs.Prelude.{◌≡◌, map, IfOk, OnOk};
 ghost use Rattle.std.specs.Option.{option_map};
-ghost use Rattle.toml.specs.Data.{get_member, integer, no_members, string, table as table_data};
+ghost use Rattle.toml.specs.Data.{get_member, integer, string};
 ghost use Rattle.toml.specs.View.{table_view, view};
 ghost use Rattle.metric_table.specs.Fields.{as_list};
-ghost use Rattle.metric_short.specs.Members.{array_of, list_or, list_within, with_member};
+ghost use Rattle.metric_table.specs.Members.{with_member};
+ghost use Rattle.metric_short.specs.Members.{array_of, list_or, list_within};
 
 use metric_base::Items;
-use metric_table::member;
+use metric_table::{insert, member};
 use std::alloc::{AllocError, Global};
 use toml::{Table, Value};
-
-// A table with no field.
-pub(crate) fn empty_table(alloc: Global) -> Table
-    ensures { table_view result ≡ no_members }
-{
-    Table::new(alloc)
-}
 
 // Puts a value under a name, in place of one that is there.
 pub(crate) fn put(
@@ -30,21 +24,6 @@ pub(crate) fn put(
 {
     let key = String::from_str(alloc, name)?;
     insert(table, key, value)
-}
-
-fn insert(table: &mut Table, key: String, value: Value) -> Result<(), AllocError>
-    ensures { OnOk result (table_view table.new
-        ≡ with_member (string_bytes key) (view value) (table_view table.old)) }
-{
-    table.insert(key, value)?;
-    Ok(())
-}
-
-// The value that is a table.
-pub(crate) fn tabled(table: Table) -> Value
-    ensures { view result ≡ table_data (table_view table) }
-{
-    Value::Table(table)
 }
 
 // The value that is a list.

@@ -1,4 +1,4 @@
-//! Reading the fields of a TOML table one after the other, up to the first fault.
+//! Reading the fields of a TOML table one after the other, up to the first fault; and making tables.
 //!
 //! Each reader answers exactly what the definition of its name says, with the fault that the caller
 //! gives for the table's place.
@@ -7,6 +7,7 @@
 mod faults;
 mod fields;
 mod lists;
+mod making;
 
 pub use faults::FieldFaults;
 pub use fields::{
@@ -14,3 +15,4 @@ pub use fields::{
     text_field, text_of, whole_in,
 };
 pub use lists::{all_integers_of, integers_of, list_of, table_of, tables_field, texts_of};
+pub use making::{empty_table, insert, tabled};

@@ -6,7 +6,6 @@ pub mod ToldLaws
 pub mod PlaceLaws
 pub mod EachLaws
 pub mod AttributeLaws
-pub mod InOrderLaws
 pub mod TakenLaws
 pub mod AdmissionLaws
 pub mod ResourceLaws

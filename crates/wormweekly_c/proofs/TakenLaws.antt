@@ -11,7 +11,7 @@ use Rattle.std.specs.Option.{option_and_then, option_map}
 use Rattle.metric_contents.specs.declared.contents.Key.{Key}
 use Rattle.metric_contents.specs.Encoding.{Given, allowed_set, encode_of, permitted, set_of}
 use Rattle.metric_contents.specs.InOrder.{AreKeysApart, entries_after, set_in_order}
-use Rattle.wormweekly_c.proofs.InOrderLaws.{in_order_is_set}
+use Rattle.metric_contents.proofs.InOrderLaws.{in_order_is_set}
 use Rattle.wormweekly_c.specs.Attributes.{attributes_from}
 use Rattle.wormweekly_c.specs.InOrder.{IsBefore, TakesEntry}
 use Rattle.wormweekly_c.specs.Prepared.{IsEncoded, IsPrepared}

@@ -2,7 +2,7 @@
 use Rattle.std.proofs.Common.{◌≡◌, ℕ, ◌++◌, ap, ◌∙◌, arith}
 use Rattle.std.specs.List.{flat_map, range_with_len}
 use Rattle.metric_advice.specs.Collected.{reader_remarks}
-use Rattle.metric_advice.proofs.Lists.{flat_map_turn}
+use Rattle.metric_resolve.proofs.Numbers.{flat_map_turn}
 use Rattle.metric_advice.proofs.collected.add_readers.Goals as goal
 
 pub loop-reader-preserved : goal.loop-reader-preserved

@@ -6,7 +6,8 @@ use Rattle.metric_contents.specs.declared.contents.Instrument.{Instrument}
 use Rattle.metric_contents.specs.declared.contents.Recorder.{Recorder}
 use Rattle.metric_advice.specs.declared.headroom.Headroom.{Headroom}
 use Rattle.metric_advice.specs.Remarks.{instrument_remarks, room_remarks, own_remarks}
-use Rattle.metric_advice.proofs.Lists.{element_at, flat_map_turn}
+use Rattle.metric_resolve.proofs.Numbers.{flat_map_turn}
+use Rattle.metric_advice.proofs.Lists.{element_at}
 use Rattle.metric_advice.proofs.Told.{two}
 use Rattle.metric_advice.proofs.linting.add_instruments.Goals as goal
 

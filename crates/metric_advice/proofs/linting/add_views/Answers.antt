@@ -2,7 +2,7 @@
 use Rattle.std.proofs.Common.{◌≡◌, ℕ, ◌++◌, length, ap, ◌∙◌, arith}
 use Rattle.std.specs.List.{flat_map, range_with_len}
 use Rattle.metric_advice.specs.Remarks.{view_remarks}
-use Rattle.metric_advice.proofs.Lists.{flat_map_turn}
+use Rattle.metric_resolve.proofs.Numbers.{flat_map_turn}
 use Rattle.metric_advice.proofs.linting.add_views.Goals as goal
 
 pub loop-view-preserved : goal.loop-view-preserved

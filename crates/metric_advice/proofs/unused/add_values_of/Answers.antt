@@ -5,7 +5,8 @@ use Rattle.std.proofs.lemmas.List.FromFn.{get_or-map-range_with_len, length-map-
 use Rattle.metric_advice.specs.declared.remark.Remark.TheVariants.{UnusedValue}
 use Rattle.metric_advice.specs.Unused.{is_used, value_unused}
 use Rattle.metric_advice.specs.When.{when}
-use Rattle.metric_advice.proofs.Lists.{flat_map_turn, table_at, table_length}
+use Rattle.metric_resolve.proofs.Numbers.{flat_map_turn}
+use Rattle.metric_advice.proofs.Lists.{table_at, table_length}
 use Rattle.metric_advice.proofs.unused.add_values_of.Goals as goal
 
 pub bounds-as_slice-value : goal.bounds-as_slice-value

@@ -2,7 +2,7 @@
 use Rattle.std.proofs.Common.{arith, ◌∙◌}
 use Rattle.toml.specs.View.{table_view}
 use Rattle.metric_catalogue.specs.Keys.{key_of}
-use Rattle.metric_catalogue.proofs.EachMore.{each_more, one_longer}
+use Rattle.metric_base.proofs.EachMore.{each_more, one_longer}
 use Rattle.metric_catalogue.proofs.keys.keys_of.Goals as goal
 
 pub loop-table-preserved : goal.loop-table-preserved

@@ -2,7 +2,7 @@
 use Rattle.std.proofs.Common.{arith, ◌∙◌}
 use Rattle.toml.specs.View.{view}
 use Rattle.metric_catalogue.specs.Keys.{next_value}
-use Rattle.metric_catalogue.proofs.EachMore.{each_more, one_longer}
+use Rattle.metric_base.proofs.EachMore.{each_more, one_longer}
 use Rattle.metric_catalogue.proofs.keys.values_at.Goals as goal
 
 pub loop-value-preserved : goal.loop-value-preserved

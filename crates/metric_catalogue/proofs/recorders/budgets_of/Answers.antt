@@ -2,7 +2,7 @@
 use Rattle.std.proofs.Common.{arith, sym, ◌∙◌}
 use Rattle.toml.specs.View.{table_view}
 use Rattle.metric_catalogue.specs.Recorders.{budget_of}
-use Rattle.metric_catalogue.proofs.EachMore.{each_more, one_longer}
+use Rattle.metric_base.proofs.EachMore.{each_more, one_longer}
 use Rattle.metric_catalogue.proofs.recorders.budgets_of.Goals as goal
 
 pub loop-table-preserved : goal.loop-table-preserved

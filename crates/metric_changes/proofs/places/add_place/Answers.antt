@@ -2,7 +2,7 @@
 use Rattle.std.proofs.Common.{Some, string_bytes, sym, ◌∙◌}
 use Rattle.std.specs.BTreeMap.{get_by_text}
 use Rattle.std.proofs.lemmas.Map.Text.{btree_map_updates_text}
-use Rattle.metric_changes.proofs.Claims.{new_claim}
+use Rattle.metric_contents.proofs.Claims.{new_claim}
 use Rattle.metric_changes.proofs.places.add_place.Goals as goal
 
 pub returns : goal.returns

@@ -3,7 +3,7 @@ use Rattle.std.proofs.Common.{arith, map, ◌∙◌}
 use Rattle.toml.specs.View.{table_view}
 use Rattle.metric_short.specs.Instruments.{instrument_of}
 use Rattle.metric_short.specs.Seen.{key_view}
-use Rattle.metric_short.proofs.EachMore.{each_more, one_longer}
+use Rattle.metric_base.proofs.EachMore.{each_more, one_longer}
 use Rattle.metric_short.proofs.instruments.add_instruments.Goals as goal
 
 pub loop-table-preserved : goal.loop-table-preserved

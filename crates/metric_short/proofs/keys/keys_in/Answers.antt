@@ -3,7 +3,8 @@ use Rattle.std.proofs.Common.{arith, map, ap, ◌∙◌}
 use Rattle.toml.specs.View.{table_view}
 use Rattle.metric_short.specs.Keys.{key_of}
 use Rattle.metric_short.specs.Seen.{key_view}
-use Rattle.metric_short.proofs.EachMore.{each_more, one_longer, seen_more}
+use Rattle.metric_base.proofs.EachMore.{each_more, one_longer}
+use Rattle.metric_short.proofs.EachMore.{seen_more}
 use Rattle.metric_short.proofs.keys.keys_in.Goals as goal
 
 pub loop-table-preserved : goal.loop-table-preserved

@@ -2,7 +2,8 @@
 use Rattle.std.proofs.Common.{arith, length, ◌≤◌, ◌∙◌}
 use Rattle.toml.specs.View.{table_view}
 use Rattle.metric_short.specs.Recorders.{recorder_of}
-use Rattle.metric_short.proofs.EachMore.{all_more, each_more, one_longer}
+use Rattle.metric_base.proofs.EachMore.{each_more, one_longer}
+use Rattle.metric_short.proofs.EachMore.{all_more}
 use Rattle.metric_short.proofs.recorders.recorders_in.Goals as goal
 
 pub loop-table-preserved : goal.loop-table-preserved

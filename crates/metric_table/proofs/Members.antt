@@ -7,7 +7,7 @@ use Rattle.toml.specs.Data.{member}
 use Rattle.toml.specs.View.{members_view, view}
 use Rattle.toml.specs.declared.value.Value.{Value}
 use Rattle.toml.proofs.Views.{Entry}
-use Rattle.metric_short.specs.Members.{with_member}
+use Rattle.metric_table.specs.Members.{with_member}
 
 with_entry : (o : Ordering) (k : String Global) (v : Value) (e : Entry) (es : List Entry)
     → members_view (insert_entry string_cmp es k v) ≡ with_member (string_bytes k) (view v) (members_view es)

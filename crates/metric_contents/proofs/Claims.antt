@@ -1,4 +1,4 @@
--- The first place of each name, with one name more.
+-- What is kept of names, with one name more.
 use Rattle.std.proofs.Common.{◌≡◌, ℕ, Bool, true, false, cond, List, Option, Some, None, refl, sym, ap, ◌∙◌}
 use Rattle.std.specs.Prelude.{is_some}
 use Rattle.std.specs.Map.{update}
