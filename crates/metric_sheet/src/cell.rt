@@ -1,4 +1,7 @@
 //! What stands at a place of a table.
+ghost use Rattle.std.specs.Prelude.{IfOk};
+ghost use Rattle.metric_sheet.specs.Rows.{IsText};
+
 use std::alloc::{AllocError, Global};
 
 /// What stands at a place of a table.
@@ -16,7 +19,9 @@ pub enum Cell {
 
 impl Cell {
     /// A cell of a text. Fails only when out of memory.
-    pub fn text(alloc: Global, text: &str) -> Result<Cell, AllocError> {
+    pub fn text(alloc: Global, text: &str) -> Result<Cell, AllocError>
+        ensures { IfOk result (IsText text.now) }
+    {
         Ok(Cell::Text(String::from_str(alloc, text)?))
     }
 
