@@ -1,9 +1,9 @@
-//! The fields of a table, read by each reader, with its faults.
+//! The fields of a table, read by each reader, with its faults; and tables that are made.
 use crate::asserted::{OrFail, assert_equal};
 use metric_table::{
-    FieldFaults, all_integers_of, flag_or, format_up_to, integer_of, integers_of, list_of, member,
-    only, optional_text, required, short_text, table_of, tables_field, text_field, text_of,
-    texts_of, whole_in,
+    FieldFaults, all_integers_of, empty_table, flag_or, format_up_to, insert, integer_of,
+    integers_of, list_of, member, only, optional_text, required, short_text, table_of, tabled,
+    tables_field, text_field, text_of, texts_of, whole_in,
 };
 use std::alloc::{AllocError, Global};
 use std::fmt::Debug;
@@ -191,4 +191,20 @@ fn free_texts_have_at_most_1023_characters(rt: HostRuntime) {
         let text = "é".repeat(rt.alloc(), count).or_fail(&rt);
         assert_equal(&rt, short_text(&text, &FAULTS).is_ok(), is_short);
     }
+}
+
+#[test]
+fn a_table_is_made(rt: HostRuntime) {
+    let alloc = rt.alloc();
+    let mut made = empty_table(alloc);
+    for (name, number) in [("b", 1), ("a", 2), ("b", 3)] {
+        let key = String::from_str(alloc, name).or_fail(&rt);
+        insert(&mut made, key, Value::Integer(number)).or_fail(&rt);
+    }
+    let told = shown(alloc, tabled(made)).or_fail(&rt);
+    assert_equal(
+        &rt,
+        told.as_str(),
+        "Table({\"a\": Integer(2), \"b\": Integer(3)})",
+    );
 }
