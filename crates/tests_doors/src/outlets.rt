@@ -1,5 +1,6 @@
 //! Tests of batches that leave in the OpenTelemetry protocol.
 use crate::asserted::{OrFail, assert_equal};
+use crate::pages::resource;
 use metric_sdk::{
     Attr, Batch, CutSink, Encoding, MeterProvider, MetricExporter, OtlpBytes, OtlpLines, Resource,
     ResourceFault, Runs, TextExporter, ValueRef, counter, open,
@@ -80,11 +81,6 @@ fn batches_leave_in_the_opentelemetry_protocol(rt: HostRuntime) {
         message.extend_from_slice(part).or_fail(&rt);
     }
     assert_equal(&rt, sink.taken(), message.as_slice());
-}
-
-fn resource<R: Abort>(rt: &R, alloc: Global) -> Resource {
-    let (key, value) = ("service.name", ValueRef::Text("till"));
-    Resource::new(alloc, &[Attr { key, value }]).or_fail(rt)
 }
 
 // What a sink has after an export in an encoding.

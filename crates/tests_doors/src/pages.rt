@@ -71,7 +71,7 @@ impl Pages for Shelf {
     }
 }
 
-fn resource<R: Abort>(rt: &R, alloc: Global) -> Resource {
+pub(crate) fn resource<R: Abort>(rt: &R, alloc: Global) -> Resource {
     let (key, value) = ("service.name", ValueRef::Text("till"));
     Resource::new(alloc, &[Attr { key, value }]).or_fail(rt)
 }

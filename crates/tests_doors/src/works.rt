@@ -139,9 +139,16 @@ fn what_is_left_counts_grants(rt: HostRuntime) {
         write!(told, ", room {room}, spare {spare}").or_fail(&rt);
         assert_equal(&rt, told.as_str(), wanted);
     }
+}
+
+#[test]
+fn what_a_stranger_has_left_is_its_own(rt: HostRuntime) {
+    let alloc = rt.alloc();
+    let (provider, mut seats) = open_seats(&rt, alloc);
+    let seat = take_seat(&rt, &mut seats, 0);
     let (other, mut strangers) = open_seats(&rt, alloc);
     let stranger = take_seat(&rt, &mut strangers, 1);
-    let unknown = [
+    let told = [
         seat.room(&rt, &provider, 9),
         provider.spare_left(&rt, 9),
         stranger.room(&rt, &provider, 1),
@@ -153,7 +160,7 @@ fn what_is_left_counts_grants(rt: HostRuntime) {
         Ok(3),
         Ok(3),
     ];
-    assert_equal(&rt, unknown, wanted);
+    assert_equal(&rt, told, wanted);
 }
 
 // What is told of work that is counted twice, one within the other.
