@@ -110,8 +110,11 @@ static PyObject *add_items(Seat *self, PyObject *items, Py_ssize_t count, wormwe
     if (read <= 0) {
         return read < 0 ? NULL : PyLong_FromLong(0);
     }
+    /* the list may let go of it while this thread waits for a mutex */
+    Py_INCREF(first);
     work = work_on(self, first->run, first->instrument);
     answer = handles_add_all(&work, list, (size_t)read, &made);
+    Py_DECREF(first);
     if (answer == WORMWEEKLY_DONE && read < count) {
         answer = WORMWEEKLY_UNKNOWN_INSTRUMENT;
     }

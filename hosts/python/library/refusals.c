@@ -72,8 +72,22 @@ PyObject *refuse_said(Run *run, uint32_t answer, size_t recorder, size_t instrum
     return refuse(run, answer);
 }
 
-PyObject *refuse_type(Run *run, const char *wanted, PyObject *given) {
+/* A metaclass may answer what is no text where the name of its type is asked for, or raise. */
+static PyObject *name_of_type(PyObject *given) {
     PyObject *name = PyObject_GetAttrString((PyObject *)Py_TYPE(given), "__name__");
+    if (name != NULL && PyUnicode_Check(name)) {
+        return name;
+    }
+    if (name == NULL && !PyErr_ExceptionMatches(PyExc_Exception)) {
+        return NULL;
+    }
+    PyErr_Clear();
+    Py_XDECREF(name);
+    return PyUnicode_FromString("a value whose type has no name");
+}
+
+PyObject *refuse_type(Run *run, const char *wanted, PyObject *given) {
+    PyObject *name = name_of_type(given);
     PyObject *told = name == NULL ? NULL : PyUnicode_FromFormat("%s, not %U", wanted, name);
     Py_XDECREF(name);
     return refuse_with(run, WRONG_TYPE, told);
