@@ -30,11 +30,9 @@ mod exposures;
 #[cfg(test)]
 mod families;
 #[cfg(test)]
-mod memory;
+mod faults;
 #[cfg(test)]
 mod outlets;
-#[cfg(test)]
-mod patterns;
 #[cfg(test)]
 mod pictures;
 #[cfg(test)]
