@@ -1,15 +1,10 @@
 //! Command lines on whole inputs: what is written, and the line and the exit status of the fault.
-mod combinations;
 mod devices;
-mod grants;
 mod hostile;
 mod last_batches;
 
 use crate::asserted::{OrFail, assert_equal};
-use crate::inputs::{
-    BUDGETED, HITS, MAIN, OUTPUT, Parts, READERS, READERS_OUTPUT, READERS_RUN, RUN, RUNS, SHOP,
-    SHOP_OUTPUT, SHOP_RUN, SHOP_VIEWS,
-};
+use crate::inputs::{HITS, MAIN, Parts, RUN, RUNS};
 use metric_audit::AuditFault;
 use metric_command_lines::{Line, LineFault};
 use metric_export::Plain;
@@ -84,15 +79,6 @@ reader = 1
 sets = 1
 ";
 
-// The same with a greatest sum that is 1 too small.
-const MISJUDGED: &str = "%% certificate
-format = 1
-reason = []
-stream = [{ reader = 0, instrument = 0, by = \"product\", sets = 1 }, { reader = 1, instrument = 0, by = \"product\", sets = 1 }]
-bound = [{ instrument = 0, total = \"2\", amount = \"200\", low = \"0\", high = \"199\" }]
-order = [{ reader = 0, streams = [0] }, { reader = 1, streams = [1] }]
-";
-
 const SHOWN: &str = "%% catalogue
 format = 1
 [[meter]]
@@ -127,31 +113,6 @@ warning Unfit view=1 instrument=1
 warning Collision streams=0,1
 ";
 
-const LISTING: &str =
-    "stream 0 reader=\"main\" instrument=0 view=0 name=\"wait\" kind=histogram bounds=[-1,5] temporality=delta limit=2000 keys=[\"route\",\"paid\"]
-stream 1 reader=\"main\" instrument=0 view=1 name=\"waits\" kind=sum monotonic=yes temporality=delta limit=2000 keys=[\"route\",\"user\",\"paid\"]
-stream 2 reader=\"main\" instrument=1 view=- name=\"hits\" kind=sum monotonic=yes temporality=cumulative limit=2000 keys=[]
-stream 3 reader=\"main\" instrument=2 view=- name=\"stock\" kind=sum monotonic=no temporality=cumulative limit=2000 keys=[]
-stream 4 reader=\"main\" instrument=3 view=- name=\"level\" kind=last temporality=cumulative limit=2000 keys=[]
-";
-
-// Budgets of more than 2^64 - 1 recordings for one instrument.
-const MANY: &str = "%% catalogue
-format = 1
-[[meter]]
-name = \"m\"
-instrument = [{ name = \"c\", kind = \"counter\", range = [0, 1] }]
-[[recorder]]
-name = \"a\"
-budget = [{ instrument = 0, amount = 9223372036854775807 }]
-[[recorder]]
-name = \"b\"
-budget = [{ instrument = 0, amount = 9223372036854775807 }]
-[[recorder]]
-name = \"c\"
-budget = [{ instrument = 0, amount = 2 }]
-";
-
 // Two counters, two recorders with ten recordings of each, and a reader.
 const COUNTED: Parts = &[
     "%% catalogue
@@ -183,307 +144,7 @@ const COUNTED_FOUR_TIMES: &str = "instrument 0 count 8 sum 24
 instrument 1 count 8 sum 24
 ";
 
-// A gauge of negative values with a required and an optional key, a recorder, and one without a budget.
-const KEYED: Parts = &[
-    "%% catalogue
-format = 1
-[[meter]]
-name = \"m\"
-[[meter.instrument]]
-name = \"g\"
-kind = \"gauge\"
-range = [-9, -2]
-key = [{ name = \"k\", values = [\"a\", \"b\"] }, { name = \"o\", values = [1], optional = true }]
-[[recorder]]
-name = \"r0\"
-budget = [{ instrument = 0, amount = 3 }]
-[[recorder]]
-name = \"r1\"
-",
-    MAIN,
-    "%% certificate
-format = 1
-reason = []
-stream = [{ reader = 0, instrument = 0, by = \"product\", sets = 4 }]
-bound = [{ instrument = 0, total = \"3\", amount = \"21\", low = \"-27\", high = \"0\" }]
-order = [{ reader = 0, streams = [0] }]
-",
-];
-
 const SAMPLE: Parts = &[HITS, MAIN, RUN];
-
-// A command, the parts of its input, and what is told.
-const TOLD: &[(Line, Parts, &str)] = &[
-    (
-        REPLAY,
-        &[BUDGETED, READERS, CERTIFICATE, READERS_RUN],
-        READERS_OUTPUT,
-    ),
-    (Line::Check, &[BUDGETED, READERS, CERTIFICATE], "accepted\n"),
-    (Line::Make, &[BUDGETED, READERS], MADE),
-    (
-        Line::Make,
-        &[SHOWN, SHOWN_VIEWS],
-        "refused: make 1 Collision, 1",
-    ),
-    (Line::Show, &[SHOWN, SHOWN_VIEWS], SHOWN_OUTPUT),
-    (Line::Show, &[SHOP, SHOP_VIEWS], LISTING),
-    (
-        Line::Show,
-        &[HITS, "%% config\nformat = 1\n", "%% script\nno script\n"],
-        "",
-    ),
-    (FOUR_EACH, COUNTED, COUNTED_FOUR_TIMES),
-    (
-        Line::Threads { each: 2 },
-        KEYED,
-        "instrument 0 count 2 sum -4\n",
-    ),
-    // No recorder records beyond its budget.
-    (
-        Line::Threads { each: 12 },
-        COUNTED,
-        "instrument 0 count 20 sum 60\ninstrument 1 count 20 sum 60\n",
-    ),
-    (
-        Line::Threads { each: 0 },
-        COUNTED,
-        "instrument 0 count 0 sum 0\ninstrument 1 count 0 sum 0\n",
-    ),
-    // Faults of the input's lines, of its certificate and of its plan.
-    (FOUR_EACH, SAMPLE, "refused: input line 19, 3"),
-    (
-        FOUR_EACH,
-        &[BUDGETED, READERS, MISJUDGED],
-        "refused: check 11 SumHigh, 1",
-    ),
-    (
-        TRIAL,
-        &[HITS, MAIN, "%% script\nstart 0\nrec\nclose 0\n"],
-        "refused: input line 21, 3",
-    ),
-    (
-        TRIAL,
-        &[HITS, MAIN, "%% script\n"],
-        "refused: input line 20, 3",
-    ),
-    (
-        TRIAL,
-        &[HITS, MAIN, "%% script\n# nothing\n\n"],
-        "refused: input line 22, 3",
-    ),
-    (
-        TRIAL,
-        &[HITS, MAIN, "%% script\nstart 0\n%% script\n"],
-        "refused: input line 21, 3",
-    ),
-    (
-        Line::Show,
-        &[HITS, "%% config\n%% config\n"],
-        "refused: input line 16, 3",
-    ),
-    (REPLAY, &[HITS, MAIN, RUN], "refused: input line 19, 3"),
-    (AUDITED, &[HITS, MAIN, RUN], "refused: input line 19, 3"),
-    (
-        AUDITED_TRIAL,
-        &[HITS, MAIN, "%% script\nstart 0\nrec\nclose 0\n"],
-        "refused: input line 21, 3",
-    ),
-    (
-        REPLAY,
-        &[HITS, MAIN, "%% certificate\n", RUN],
-        "refused: certificate 2 Shape, 1",
-    ),
-    (Line::Check, &[HITS, MAIN, RUN], "refused: input line 19, 3"),
-    (
-        Line::Check,
-        &[HITS, "%% config\n[a\n", "%% certificate\n[a\n"],
-        "refused: config 1 NotToml, 1",
-    ),
-    (
-        Line::Check,
-        &[HITS, MAIN, "%% certificate\n[a\n"],
-        "refused: certificate 1 NotToml, 1",
-    ),
-    (
-        Line::Check,
-        &[HITS, MAIN, "%% certificate\n", RUN],
-        "refused: certificate 2 Shape, 1",
-    ),
-    (
-        Line::Check,
-        &[BUDGETED, READERS, MISJUDGED],
-        "refused: check 11 SumHigh, 1",
-    ),
-    (
-        REPLAY,
-        &[BUDGETED, READERS, MISJUDGED, "%% script\nrec\n"],
-        "refused: check 11 SumHigh, 1",
-    ),
-    (
-        REPLAY,
-        &[BUDGETED, READERS, CERTIFICATE, "%% script\nrec\n"],
-        "refused: input line 23, 3",
-    ),
-    (
-        TRIAL,
-        &[MANY, MAIN, "%% script\nrec\n"],
-        "refused: check 12 CountRange, 1",
-    ),
-    // Lines outside the grammar of scripts.
-    (
-        TRIAL,
-        &[HITS, MAIN, "%% script\nstart 0\n #\n"],
-        "refused: input line 21, 3",
-    ),
-    (
-        TRIAL,
-        &[HITS, MAIN, "%% script\nstart 0\nstart 1\n"],
-        "refused: input line 21, 3",
-    ),
-    (
-        TRIAL,
-        &[HITS, MAIN, "%% script\nstart 0\nclose 01\n"],
-        "refused: input line 21, 3",
-    ),
-    (
-        TRIAL,
-        &[HITS, MAIN, "%% script\nstart 0\nclose 4294967296\n"],
-        "refused: input line 21, 3",
-    ),
-    (
-        TRIAL,
-        &[HITS, MAIN, "%% script\nstart 0\nClose 1\n"],
-        "refused: input line 21, 3",
-    ),
-    (
-        TRIAL,
-        &[HITS, MAIN, "%% script\nstart 0\ncollect 1 2\n"],
-        "refused: input line 21, 3",
-    ),
-    (
-        TRIAL,
-        &[HITS, MAIN, "%% script\nstart 0\nrecord 1 2 -0\n"],
-        "refused: input line 21, 3",
-    ),
-    (
-        TRIAL,
-        &[HITS, MAIN, "%% script\nstart 0\nrecord 1 2 3 \n"],
-        "refused: input line 21, 3",
-    ),
-    (
-        TRIAL,
-        &[HITS, MAIN, "%% script\nstart 0\nrecord 1 2 3 a=1\n"],
-        "refused: input line 21, 3",
-    ),
-    (
-        TRIAL,
-        &[
-            HITS,
-            MAIN,
-            "%% script\nstart 0\nrecord 1 2 3 \"a\"=1\"b\"=2\n",
-        ],
-        "refused: input line 21, 3",
-    ),
-    (
-        TRIAL,
-        &[
-            HITS,
-            MAIN,
-            "%% script\nstart 0\nrecord 1 2 3 \"a\"=\"\\q\"\n",
-        ],
-        "refused: input line 21, 3",
-    ),
-];
-
-// Faults of the parts that each command reads, told alike by all.
-const DECLARED: &[(Parts, &str)] = &[
-    (
-        &["%% catalogue\n[a\n", MAIN, RUN],
-        "refused: catalogue 1 NotToml, 1",
-    ),
-    (
-        &["%% catalogue\n", MAIN, RUN],
-        "refused: catalogue 2 MissingField at top, 1",
-    ),
-    (
-        &[
-            "%% catalogue\nformat = 1\nmeter = [{name = 'm'}, {name = 'm'}]\n",
-            "%% config\n[a\n",
-            RUN,
-        ],
-        "refused: catalogue 7 DuplicateMeter at meter 1, 1",
-    ),
-    (
-        &[
-            "%% catalogue\nformat = 1\nmeter = [{name = 'm', instrument = [{name = '9', kind = 'gauge', range = [0, 1]}]}]\n",
-            MAIN,
-            RUN,
-        ],
-        "refused: catalogue 5 BadName at instrument 0, 1",
-    ),
-    (
-        &[
-            "%% catalogue\nformat = 1\nrecorder = [{name = 'r', budget = [{instrument = 0, amount = 1}]}]\n",
-            MAIN,
-            RUN,
-        ],
-        "refused: catalogue 14 UnknownInstrument at recorder 0, 1",
-    ),
-    (
-        &[HITS, "%% config\n[a\n", RUN],
-        "refused: config 1 NotToml, 1",
-    ),
-    (
-        &[HITS, "%% config\nformat = 2\n", RUN],
-        "refused: config 3 WrongKind at top, 1",
-    ),
-    (
-        &[
-            HITS,
-            "%% config\nformat = 1\nreader = [{name = 'a'}, {name = 'a'}]\n",
-            RUN,
-        ],
-        "refused: config 9 DuplicateReader at reader 1, 1",
-    ),
-    (
-        &[
-            HITS,
-            "%% config\nformat = 1\nview = [{}, {limit = 0}]\n",
-            RUN,
-        ],
-        "refused: config 8 BadLimit at view 1, 1",
-    ),
-];
-
-// An audited replay, the parts of its input, the replies, and the line after them.
-const AUDITS: &[(Line, Parts, &str, &str)] = &[
-    (
-        AUDITED,
-        &[BUDGETED, READERS, CERTIFICATE, READERS_RUN],
-        READERS_OUTPUT,
-        "audited 2\n",
-    ),
-    (
-        AUDITED_TRIAL,
-        &[BUDGETED, READERS, READERS_RUN],
-        READERS_OUTPUT,
-        "audited 2\n",
-    ),
-    (AUDITED_TRIAL, SAMPLE, OUTPUT, "audited 2\n"),
-    (
-        AUDITED_TRIAL,
-        &[SHOP, SHOP_VIEWS, SHOP_RUN],
-        SHOP_OUTPUT,
-        "audited 8\n",
-    ),
-    (
-        AUDITED_TRIAL,
-        &[HITS, MAIN, "%% script\nstart 0\n"],
-        "",
-        "audited 0\n",
-    ),
-];
 
 // Writes the line that was told and the exit status, where the command was not done.
 fn write_stop<R: Abort>(out: &mut String, rt: &R, told: &[u8], status: u8) {
@@ -531,36 +192,10 @@ fn told_whole<R: Abort + Threads + Wait + Sync>(
 }
 
 #[test]
-fn each_input_is_answered(rt: HostRuntime) {
-    for (line, parts, wanted) in TOLD {
-        let told = told_whole(&rt, rt.alloc(), *line, parts);
-        assert_equal(&rt, told.as_str(), *wanted);
-    }
-}
-
-#[test]
 fn a_trial_writes_its_replies(rt: HostRuntime) {
     for (parts, wanted) in RUNS {
         let told = told_whole(&rt, rt.alloc(), TRIAL, parts);
         assert_equal(&rt, told.as_str(), *wanted);
-    }
-}
-
-#[test]
-fn an_audit_ends_with_a_line(rt: HostRuntime) {
-    for (line, parts, replies, last) in AUDITS {
-        let told = told_whole(&rt, rt.alloc(), *line, parts);
-        assert_equal(&rt, told.strip_suffix(*last), Some(*replies));
-    }
-}
-
-#[test]
-fn a_faulty_declaration_is_told(rt: HostRuntime) {
-    for (parts, wanted) in DECLARED {
-        let tried = told_whole(&rt, rt.alloc(), TRIAL, parts);
-        assert_equal(&rt, tried.as_str(), *wanted);
-        let shown = told_whole(&rt, rt.alloc(), Line::Show, parts);
-        assert_equal(&rt, shown.as_str(), *wanted);
     }
 }
 
