@@ -3,3 +3,4 @@ mod Characters
 mod Labels
 mod GrammarLaws
 mod PartLaws
+mod UnitLaws

@@ -78,16 +78,16 @@ unless_digit (c ∷ name) = if is_ascii_digit c then 95 ∷ c ∷ name else c �
 unfoldable pub family : Stream → List ℕ
 family stream = unless_digit (joined (family_parts stream))
 
--- the name is these words, or ends with them and `_` before them
-abbrev pub ends_with_words : List ℕ → List ℕ → Bool
-ends_with_words name words = bytes_eq name words || ends_with ◌==◌ name (95 ∷ words)
+-- the name ends with `_` and the words of the unit
+abbrev pub ends_with_unit : List ℕ → List ℕ → Bool
+ends_with_unit name unit = ends_with ◌==◌ name (95 ∷ unit)
 
--- the unit that is told of a family: where its name ends with it
+-- the unit that is told of a family: where its name ends with `_` and it
 abbrev pub unit_told : List ℕ → List ℕ → List ℕ
-unit_told name unit = if ends_with_words name unit then unit else []
+unit_told name unit = if ends_with_unit name unit then unit else []
 
 -- # unit that is told (OpenMetrics, `# UNIT`)
--- The parts of the unit, where the family ends with them.
+-- The parts of the unit, where the family ends with `_` and them: never the family itself.
 unfoldable pub unit_text : Stream → List ℕ
 unit_text stream = unit_told (family stream) (joined (unit_parts stream.unit))
 

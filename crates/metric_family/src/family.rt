@@ -1,7 +1,6 @@
 //! The metric family of a stream.
 ghost use Rattle.std.specs.Prelude.{◌≡◌, not, codes, filter, ◌∷◌, [], IfOk, OnOk};
-ghost use Rattle.std.specs.Str.{bytes_eq};
-ghost use Rattle.metric_family.specs.Families.{ends_with_words, family, family_parts, is_ratio, left_out, named_parts};
+ghost use Rattle.metric_family.specs.Families.{ends_with_unit, family, family_parts, is_ratio, left_out, named_parts};
 ghost use Rattle.metric_family.specs.Families.{ratio_parts, unit_text, unless_digit};
 ghost use Rattle.metric_family.specs.Words.{is_among, is_some, joined, with_parts, without, words};
 
@@ -25,15 +24,15 @@ pub fn family_of(alloc: Global, stream: &Stream) -> Result<Text, AllocError>
     Ok(text_of_ascii(name))
 }
 
-/// What `# UNIT` says of a stream's family (OpenMetrics): the words of its unit, where the family's name ends with
-/// them; else the empty text. Fails only when out of memory.
+/// What `# UNIT` says of a stream's family (OpenMetrics): the words of its unit, where the family's name ends with `_`
+/// and these; else the empty text. Fails only when out of memory.
 #[tactic(auto, unfolding(crate::specs::Families::unit_text))]
 pub fn unit_text_of(alloc: Global, stream: &Stream) -> Result<Text, AllocError>
     ensures { IfOk result (λ text. text ≡ unit_text stream.now) }
 {
     let family = family_of(alloc, stream)?;
     let unit = unit_words(alloc, stream.unit.get().as_str().as_bytes())?;
-    if !ends_with_words(alloc, family.as_str().as_bytes(), unit.as_slice())? {
+    if !ends_with_unit(alloc, family.as_str().as_bytes(), unit.as_slice())? {
         return Text::new(alloc, "");
     }
     Ok(text_of_ascii(unit))
@@ -131,14 +130,11 @@ fn unless_digit(alloc: Global, name: Vec<u8>) -> Result<Vec<u8>, AllocError>
     }
 }
 
-// Whether a name is these words, or ends with them and `_` before them.
-fn ends_with_words(alloc: Global, name: &[u8], words: &[u8]) -> Result<bool, AllocError>
-    ensures { IfOk result (λ answer. answer ≡ ends_with_words name.now words.now) }
+// Whether a name ends with `_` and the words of a unit.
+fn ends_with_unit(alloc: Global, name: &[u8], unit: &[u8]) -> Result<bool, AllocError>
+    ensures { IfOk result (λ answer. answer ≡ ends_with_unit name.now unit.now) }
 {
-    if name == words {
-        return Ok(true);
-    }
     let mut end = Vec::from_slice(alloc, b"_")?;
-    end.extend_from_slice(words)?;
+    end.extend_from_slice(unit)?;
     Ok(name.ends_with(end.as_slice()))
 }

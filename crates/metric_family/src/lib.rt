@@ -15,5 +15,5 @@ mod words;
 
 pub use family::{family_of, unit_text_of};
 pub use label::{is_bad_label, label_of, push_label, push_value, text_of};
-pub use laws::{families_are_names, labels_are_labels};
+pub use laws::{families_are_names, labels_are_labels, units_are_parts_of_families};
 pub use metric_type::MetricType;
