@@ -105,7 +105,8 @@ const NAMELESS: &str =
 
 const BAD_LABEL: &str = "which says nothing";
 
-const SAME_LABEL: &str = "which an earlier key or each line has";
+const SAME_LABEL: &str =
+    "which an earlier key has, or which is kept for the meter, for buckets or for the overflow";
 
 const SAME_VALUE: &str = "where two of its values are one text, or an empty one is like none";
 
@@ -152,7 +153,7 @@ fn words_of_names(
             )
         }
         None => format!(in alloc;
-            "for prometheus: {one}, and each page has \"target_info\": {RENAME}"
+            "for prometheus: {one}, which is kept for the target, as \"target_info\" and \"up\" are: {RENAME}"
         ),
     }
 }

@@ -5,7 +5,7 @@ ghost use Rattle.std.specs.Str.{bytes_eq};
 ghost use Rattle.metric_contents.specs.PlaceLaws.{or_else};
 ghost use Rattle.metric_family.specs.Families.{claims_by};
 ghost use Rattle.metric_family.specs.Words.{is_among};
-ghost use Rattle.metric_exposure.specs.Collisions.{collision_by, name_fault};
+ghost use Rattle.metric_exposure.specs.Collisions.{collision_by, is_of_target, name_fault};
 
 use crate::fault::ExposureFault;
 use metric_family::MetricType;
@@ -57,7 +57,7 @@ fn collision_with(
 fn name_fault(claims: &Claims, number: usize, name: &str) -> Option<ExposureFault>
     ensures { result ≡ name_fault number (get_by_text claims.now) name.now }
 {
-    if name == "target" || name == "target_info" {
+    if is_of_target(name) {
         return Some(ExposureFault::NameCollision {
             stream: number,
             with: None,
@@ -68,6 +68,22 @@ fn name_fault(claims: &Claims, number: usize, name: &str) -> Option<ExposureFaul
         stream: number,
         with: Some(other),
     })
+}
+
+// Whether a name is of what describes the target, or of what a server writes itself of each target that it scrapes.
+fn is_of_target(name: &str) -> bool
+    ensures { result ≡ is_of_target name.now }
+{
+    matches!(
+        name,
+        "target"
+            | "target_info"
+            | "up"
+            | "scrape_duration_seconds"
+            | "scrape_samples_scraped"
+            | "scrape_samples_post_metric_relabeling"
+            | "scrape_series_added"
+    )
 }
 
 /// Keeps the names of a family that no stream claims yet, as those of the stream of this number.

@@ -28,7 +28,8 @@ pub enum ExposureFault {
     NameCollision {
         /// The stream.
         stream: usize,
-        /// The first stream of the reader that claims the name, or none where the target does.
+        /// The first stream of the reader that claims the name, or none where it is the target's: `target_info`, or what a
+        /// server writes itself, as `up`.
         with: Option<usize>,
     },
     /// The key has no letter and no digit, so that its label says nothing.
