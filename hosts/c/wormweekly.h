@@ -286,10 +286,11 @@ uint32_t wormweekly_text(wormweekly_reader *reader, uint8_t *out, size_t room, s
 
 /* Writes that batch in the OpenTelemetry protocol (OTLP 1.x), with the attributes of the resource, which is what produces the
  * metrics, as {"service.name" = "shop"}: as a message ExportMetricsServiceRequest (json 0), which a collector takes at /v1/metrics
- * as application/x-protobuf, or as a line of JSON (1; WORMWEEKLY_UNKNOWN above). A resource has at most 64 attributes
- * (WORMWEEKLY_TOO_MANY), none with an empty key (WORMWEEKLY_EMPTY_KEY), and none twice (WORMWEEKLY_DUPLICATE_KEY). Nothing is
- * written before a batch, and of one without points. Requests one after the other are one request. Where a collector did not take
- * a request, keep it and send it before the next one: a delta reader does not give its window again. Needs no mutex. */
+ * as application/x-protobuf, or as a line of JSON (1; WORMWEEKLY_UNKNOWN above), which it takes as application/json. A resource
+ * has at most 64 attributes (WORMWEEKLY_TOO_MANY), none with an empty key (WORMWEEKLY_EMPTY_KEY), and none twice
+ * (WORMWEEKLY_DUPLICATE_KEY). Nothing is written before a batch, and of one without points. Messages one after the other are one
+ * request; each line of JSON is a post of its own, since a collector reads the first of several alone. Where a collector did not
+ * take a request, keep it and send it before the next one: a delta reader does not give its window again. Needs no mutex. */
 uint32_t wormweekly_otlp(wormweekly_reader *reader, uint32_t json, const uint8_t *texts, size_t texts_length,
                          const wormweekly_attribute *attributes, size_t attributes_length, uint8_t *out, size_t room,
                          size_t *text_length);

@@ -56,6 +56,7 @@ const (
 	answerDone              = 0
 	answerUnknownInstrument = 1
 	answerUnknownRecorder   = 2
+	answerBudget            = 9
 	answerMemory            = 11
 	answerStranger          = 12
 	answerTooShort          = 102

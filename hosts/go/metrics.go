@@ -214,7 +214,7 @@ type Bound struct {
 	set        setKey
 }
 
-// Bind looks up a set of attributes, for recordings by Recorder.Add.
+// Bind looks up a set of attributes, for recordings by Recorder.Add. With an error comes a Bound that records nothing.
 func (instrument *Instrument) Bind(attributes ...Attr) (Bound, error) {
 	own := instrument.run
 	if len(own.recorders) == 0 {
@@ -226,11 +226,17 @@ func (instrument *Instrument) Bind(attributes ...Attr) (Bound, error) {
 	first.keep()
 	defer first.state.Store(free)
 	set, answer := prepare(own.handles, instrument.number, first.number, attributes)
-	return Bound{instrument, set}, errorSaid(instrument, answer, first.number, attributes, 0)
+	if answer != answerDone {
+		return Bound{}, errorSaid(instrument, answer, first.number, attributes, 0)
+	}
+	return Bound{instrument, set}, nil
 }
 
 // Grant gives a recorder so many recordings beside its budget, of what is left of the spare budget.
 func (instrument *Instrument) Grant(recorder *Recorder, amount uint64) error {
+	if recorder == nil {
+		return errorOn(instrument, answerUnknownRecorder)
+	}
 	if recorder.run != instrument.run {
 		return errorOn(instrument, answerStranger)
 	}
@@ -299,7 +305,8 @@ func (reader *Reader) OTLP(instrument *Instrument, now time.Time, resource ...At
 	return reader.otlp(instrument, now, resource, 0)
 }
 
-// OTLPLine is the same as a line of JSON.
+// OTLPLine is the same as a line of JSON, which a collector takes as application/json. Each line is a post of its own: of
+// several, a collector reads the first alone.
 func (reader *Reader) OTLPLine(instrument *Instrument, now time.Time, resource ...Attr) ([]byte, error) {
 	return reader.otlp(instrument, now, resource, 1)
 }
@@ -331,6 +338,9 @@ func (reader *Reader) Last() (Batch, error) {
 // Collects under the mutex of the reader. That of another run is refused before its handles are looked at, since a
 // roll-over of that run may be changing them.
 func (reader *Reader) collect(instrument *Instrument, now time.Time) error {
+	if instrument == nil {
+		return errorOf(answerUnknownInstrument)
+	}
 	if instrument.run != reader.run {
 		return errorOn(instrument, answerStranger)
 	}

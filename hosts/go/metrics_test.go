@@ -199,9 +199,61 @@ func TestAPoolLends(t *testing.T) {
 	if _, err := pool.Get(ctx); !errors.Is(err, context.DeadlineExceeded) {
 		t.Error(err)
 	}
-	pool.Put(one)
+	for _, strange := range []*Recorder{nil, {}} {
+		if err := pool.Put(strange); !errors.Is(err, ErrNotLent) {
+			t.Error(err)
+		}
+	}
+	done(t, pool.Put(one))
+	if err := pool.Put(one); !errors.Is(err, ErrNotLent) {
+		t.Error(err)
+	}
 	done(t, must(pool.Get(context.Background()))(t).Record(requests, 1, home...))
-	pool.Put(two)
+	done(t, pool.Put(two))
+	var zero Pool
+	if _, err := zero.Get(context.Background()); !errors.Is(err, ErrNoPool) {
+		t.Error(err)
+	}
+	if err := zero.Put(one); !errors.Is(err, ErrNoPool) {
+		t.Error(err)
+	}
+}
+
+func TestNothingIsRefused(t *testing.T) {
+	metrics, first, _, requests := opened(t)
+	bound, err := requests.Bind(String("route", "/admin"), Int("status", 200))
+	if err == nil || !errors.Is(first.Add(bound, 1), ErrUnknownInstrument) {
+		t.Errorf("%v, %v", err, bound)
+	}
+	if _, err := metrics.Readers[0].Collect(nil, at(1)); !errors.Is(err, ErrUnknownInstrument) {
+		t.Error(err)
+	}
+	if err := requests.Grant(nil, 1); !errors.Is(err, ErrUnknownRecorder) {
+		t.Error(err)
+	}
+	if count := totalsOf(t, metrics)[0].Count; count != 0 {
+		t.Errorf("%d were counted", count)
+	}
+}
+
+// What is counted in can be counted out: of three recordings that are left, one piece of work has two.
+func TestWorkIsCountedInAndOut(t *testing.T) {
+	metrics, first, _, _ := opened(t)
+	inFlight := must(metrics.Instrument("in_flight"))(t)
+	bound := must(inFlight.Bind())(t)
+	for left := must(first.Budget(inFlight))(t).Left; left > 3; left-- {
+		done(t, first.Add(bound, 0))
+	}
+	out := must(first.InFlight(bound))(t)
+	second, err := first.InFlight(bound)
+	if !errors.Is(err, ErrBudget) {
+		t.Error(err)
+	}
+	done(t, second())
+	done(t, out())
+	if total := totalsOf(t, metrics)[inFlight.Number()]; total.Sum.Sign() != 0 {
+		t.Error(total)
+	}
 }
 
 // All calls at once: no recording is lost, none counted twice.

@@ -19,6 +19,8 @@ type Recorder struct {
 	number int
 	name   string
 	list   []prepared
+	// how often each instrument is counted in and not out again
+	underWay map[*Instrument]uint64
 }
 
 // Name is the name.
@@ -93,6 +95,32 @@ func (recorder *Recorder) AddAll(items []Item) error {
 		return nil
 	}
 	return &ListError{made, errorOn(on, answer)}
+}
+
+// InFlight counts some work in, on an up-down counter, and answers what counts it out again. Where fewer than two recordings
+// are left for it, beside those that count out what is under way, the error wraps ErrBudget and nothing is counted: what is
+// counted in can be counted out, unless something else records on the instrument by this recorder.
+func (recorder *Recorder) InFlight(bound Bound) (out func() error, err error) {
+	on := bound.instrument
+	nothing := func() error { return nil }
+	left, err := recorder.Budget(on)
+	if err != nil {
+		return nothing, err
+	}
+	if left.Left < recorder.underWay[on]+2 {
+		return nothing, errorOn(on, answerBudget)
+	}
+	if err := recorder.Add(bound, 1); err != nil {
+		return nothing, err
+	}
+	if recorder.underWay == nil {
+		recorder.underWay = map[*Instrument]uint64{}
+	}
+	recorder.underWay[on]++
+	return func() error {
+		recorder.underWay[on]--
+		return recorder.Add(bound, -1)
+	}, nil
 }
 
 // Ask grants the recorder so many recordings beside its budget, of what is left of the spare budget. Any goroutine may

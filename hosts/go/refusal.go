@@ -43,6 +43,8 @@ var (
 	ErrUnknownInstrument = &Refusal{Name: "UnknownInstrument", sentence: "the plan has no such instrument"}
 	ErrUnknownRecorder   = &Refusal{Name: "UnknownRecorder", sentence: "the instrument has no such recorder"}
 	ErrInUse             = &Refusal{Name: "InUse", sentence: "another goroutine is using the recorder"}
+	ErrNotLent           = &Refusal{Name: "NotLent", sentence: "the pool did not lend this recorder"}
+	ErrNoPool            = &Refusal{Name: "NoPool", sentence: "NewPool did not make this pool, so that it lends nothing"}
 	ErrMemory            = &Refusal{Name: "Memory", sentence: "out of memory"}
 	ErrTooMany           = &Refusal{Name: "TooMany", sentence: "a resource has more than 64 attributes"}
 	ErrEmptyKey          = &Refusal{Name: "EmptyKey", sentence: "an attribute of a resource has an empty key"}

@@ -4,7 +4,7 @@ import time
 import unittest
 
 from tests.plans import opened
-from wormweekly import AttributeRefusal, Buckets, RangeRefusal, Refusal, Sum
+from wormweekly import AttributeRefusal, BudgetRefusal, Buckets, RangeRefusal, Refusal, Sum
 
 
 class Scopes(unittest.TestCase):
@@ -34,6 +34,15 @@ class Scopes(unittest.TestCase):
         in_flight = self.metrics.instrument("in_flight")
         with in_flight.in_flight(self.first, {}), in_flight.in_flight(self.first, {}):
             self.assertEqual(self.reader.collect(in_flight).streams[0].points[0].value, Sum(2))
+        self.assertEqual(self.reader.collect(in_flight).streams[0].points[0].value, Sum(0))
+
+    def test_a_block_that_is_counted_in_can_be_counted_out(self) -> None:
+        in_flight = self.metrics.instrument("in_flight")
+        for _ in range(self.first.budget(in_flight).left - 3):
+            self.first.record(in_flight, {}, 0)
+        with in_flight.in_flight(self.first, {}):
+            with self.assertRaises(BudgetRefusal), in_flight.in_flight(self.first, {}):
+                self.fail("it was counted in")
         self.assertEqual(self.reader.collect(in_flight).streams[0].points[0].value, Sum(0))
 
     def test_what_failed_in_the_block_is_told(self) -> None:

@@ -55,18 +55,28 @@ fn answer(mut stream: TcpStream, source: &Source) -> io::Result<()> {
     let lines = head.lines().filter_map(|line| line.split_once(':'));
     let mut accepted = lines.filter(|(name, _)| name.eq_ignore_ascii_case("accept"));
     let dialect = Dialect::for_accept(accepted.next().map_or("", |(_, value)| value));
-    let (status, body) = match head.starts_with("GET /metrics ") {
-        false => ("404 Not Found", String::new()),
-        true => match source.page(dialect) {
+    let (method, path) = asked(&head);
+    let (status, body) = match (method, path) {
+        ("GET" | "HEAD", "/metrics") => match source.page(dialect) {
             Ok(page) => ("200 OK", page),
             Err(fault) => ("503 Service Unavailable", format!("# {fault}\n")),
         },
+        (_, "/metrics") => ("405 Method Not Allowed", String::new()),
+        _ => ("404 Not Found", String::new()),
     };
     let (kind, length) = (dialect.content_type(), body.len());
     let front = format!(
         "HTTP/1.1 {status}\r\nContent-Type: {kind}\r\nContent-Length: {length}\r\nConnection: close\r\n\r\n"
     );
+    let body = if method == "HEAD" { "" } else { &body };
     stream.write_all(&[front.as_bytes(), body.as_bytes()].concat())
+}
+
+// The method and the path of a request, without the query that a scrape may have.
+fn asked(head: &str) -> (&str, &str) {
+    let mut words = head.lines().next().unwrap_or("").split(' ');
+    let (method, target) = (words.next().unwrap_or(""), words.next().unwrap_or(""));
+    (method, target.split('?').next().unwrap_or(""))
 }
 
 /// Answers scrapes for as long as the process lives. Where there are 32 clients, the next one is turned away.

@@ -1,18 +1,22 @@
 //! Pushes to a collector that takes OTLP over HTTP, with the standard library alone. What was not taken is kept and sent again,
-//! before what is collected later, so no window of a delta reader is lost.
+//! before what is collected later. A post that timed out may have arrived, so a delta window may arrive twice; with a cumulative
+//! reader that does no harm.
 //!
 //!     cargo run --offline --release --example otlp_push [HOST:PORT]     without one, a collector of its own refuses the first post
 use std::error::Error;
 use std::io::{self, ErrorKind, Read, Write};
 use std::net::{TcpListener, TcpStream};
 use std::thread;
-use std::time::Duration;
+use std::time::{Duration, Instant};
 use wormweekly::{Opened, Reader, Resource, ResourceFault, open};
 
 const WAIT: Duration = Duration::from_secs(5);
 
-/// Above this nothing more is collected: a delta reader's next window then covers what was recorded meanwhile.
-const MOST: usize = 1 << 20;
+/// The longest pause between two posts that were not taken.
+const LONGEST: Duration = Duration::from_secs(60);
+
+/// The greatest post. Above this nothing more is collected: a delta reader's next window then covers what was recorded meanwhile.
+const MOST: usize = 4 << 20;
 
 const CATALOGUE: &str = "format = 1
 [[meter]]
@@ -33,10 +37,22 @@ name = 'collector'
 temporality = { counter = 'delta' }
 ";
 
-/// Requests that no collector has taken yet. One after the other they are one request.
+/// Requests that no collector has answered yet. One after the other they are one request.
 struct Outbox {
     host: String,
     waiting: Vec<u8>,
+    pause: Duration,
+    paused_until: Instant,
+}
+
+/// What became of a post.
+enum Answer {
+    /// It was taken, but for so many points.
+    Taken(u64),
+    /// It is to be sent again, no earlier than after this.
+    Again(Duration),
+    /// It was refused for good, with this status.
+    Refused(String),
 }
 
 impl Outbox {
@@ -50,18 +66,26 @@ impl Outbox {
         Ok(())
     }
 
-    /// Sends all that waits. It goes on waiting where it was not taken.
-    fn send(&mut self) -> io::Result<()> {
-        if !self.waiting.is_empty() {
-            post(&self.host, &self.waiting)?;
-            self.waiting.clear();
+    /// Sends all that waits, unless a pause lasts. It goes on waiting only where it is to be sent again.
+    fn send(&mut self) -> Option<Answer> {
+        if self.waiting.is_empty() || Instant::now() < self.paused_until {
+            return None;
         }
-        Ok(())
+        let answer = post(&self.host, &self.waiting).unwrap_or(Answer::Again(Duration::ZERO));
+        self.pause = match answer {
+            Answer::Again(_) => (2 * self.pause).clamp(Duration::from_secs(1), LONGEST),
+            _ => Duration::ZERO,
+        };
+        match answer {
+            Answer::Again(after) => self.paused_until = Instant::now() + self.pause.max(after),
+            _ => self.waiting.clear(),
+        }
+        Some(answer)
     }
 }
 
-// Sends a request to `host`, as "127.0.0.1:4318". It was taken where the answer is a status of 2xx.
-fn post(host: &str, request: &[u8]) -> io::Result<()> {
+// Sends a request to `host`, as "127.0.0.1:4318", and reads the answer by what OpenTelemetry's protocol says of statuses.
+fn post(host: &str, request: &[u8]) -> io::Result<Answer> {
     let mut stream = TcpStream::connect(host)?;
     stream.set_read_timeout(Some(WAIT))?;
     stream.set_write_timeout(Some(WAIT))?;
@@ -70,11 +94,44 @@ fn post(host: &str, request: &[u8]) -> io::Result<()> {
         "POST /v1/metrics HTTP/1.1\r\nHost: {host}\r\nContent-Type: application/x-protobuf\r\nContent-Length: {length}\r\nConnection: close\r\n\r\n"
     );
     stream.write_all(&[front.as_bytes(), request].concat())?;
-    let head = head_of(&mut stream)?.0;
-    match head.strip_prefix("HTTP/1.1 ") {
-        Some(status) if status.starts_with('2') => Ok(()),
-        _ => Err(io::Error::other("the collector did not take it")),
+    let (head, mut body) = head_of(&mut stream)?;
+    let status = head.split(' ').nth(1).unwrap_or("").to_owned();
+    match status.as_str() {
+        "429" | "502" | "503" | "504" => Ok(Answer::Again(retry_after(&head))),
+        status if status.starts_with('2') => {
+            stream.take(1 << 16).read_to_end(&mut body)?;
+            Ok(Answer::Taken(rejected_by(&body)))
+        }
+        _ => Ok(Answer::Refused(status)),
     }
+}
+
+// How long a collector asks to be left alone.
+fn retry_after(head: &str) -> Duration {
+    let lines = head.lines().filter_map(|line| line.split_once(':'));
+    let mut asked = lines.filter(|(name, _)| name.eq_ignore_ascii_case("retry-after"));
+    let seconds = asked
+        .next()
+        .and_then(|(_, value)| value.trim().parse().ok());
+    Duration::from_secs(seconds.unwrap_or(0))
+}
+
+// How many points an answer says were rejected: field 1 of `partial_success`, which is its field 1.
+fn rejected_by(answer: &[u8]) -> u64 {
+    let part = answer.strip_prefix(b"\n").map(|rest| number_of(rest).1);
+    let rejected = part.and_then(|part| part.strip_prefix(b"\x08"));
+    rejected.map_or(0, |rest| number_of(rest).0)
+}
+
+// A number of protobuf, seven bits in each byte, and what follows it.
+fn number_of(bytes: &[u8]) -> (u64, &[u8]) {
+    let end = bytes.iter().position(|byte| *byte < 128);
+    let (number, rest) = bytes.split_at(end.map_or(0, |end| end + 1));
+    let joined = number
+        .iter()
+        .rev()
+        .fold(0u64, |all, byte| (all << 7) | u64::from(byte & 127));
+    (joined, rest)
 }
 
 // The head of a request or an answer, up to its empty line, of at most 8 KiB, and what was read of its body.
@@ -95,10 +152,13 @@ fn head_of(stream: &mut TcpStream) -> io::Result<(String, Vec<u8>)> {
     }
 }
 
-// A collector that answers the first post with 503 and the next with 200, and gives the body of that one.
+// A collector that is not ready at the first post, takes the second one but for a point, and gives what it took.
 fn collector(listener: &TcpListener) -> io::Result<Vec<u8>> {
     let mut taken = Vec::new();
-    for status in ["503 Service Unavailable", "200 OK"] {
+    for (status, answer) in [
+        ("503 Service Unavailable\r\nRetry-After: 0", ""),
+        ("200 OK", "\n\x02\x08\x01"),
+    ] {
         let (mut stream, _) = listener.accept()?;
         stream.set_read_timeout(Some(WAIT))?;
         let (head, mut body) = head_of(&mut stream)?;
@@ -107,7 +167,10 @@ fn collector(listener: &TcpListener) -> io::Result<Vec<u8>> {
         let mut rest = vec![0; length.unwrap_or(0) - body.len()];
         stream.read_exact(&mut rest)?;
         body.extend(rest);
-        stream.write_all(format!("HTTP/1.1 {status}\r\nContent-Length: 0\r\n\r\n").as_bytes())?;
+        let length = answer.len();
+        stream.write_all(
+            format!("HTTP/1.1 {status}\r\nContent-Length: {length}\r\n\r\n{answer}").as_bytes(),
+        )?;
         taken = body;
     }
     Ok(taken)
@@ -123,8 +186,12 @@ fn main() -> Result<(), Box<dyn Error>> {
             (host, Some(thread::spawn(move || collector(&listener))))
         }
     };
-    let waiting = Vec::new();
-    let mut outbox = Outbox { host, waiting };
+    let mut outbox = Outbox {
+        host,
+        waiting: Vec::new(),
+        pause: Duration::ZERO,
+        paused_until: Instant::now(),
+    };
     let Opened {
         metrics,
         mut recorders,
@@ -139,9 +206,16 @@ fn main() -> Result<(), Box<dyn Error>> {
             print!("{}", readers[0].collect(orders, now)?);
             outbox.put(&mut readers[0], &resource)?;
         }
+        thread::sleep(
+            outbox
+                .paused_until
+                .saturating_duration_since(Instant::now()),
+        );
         match outbox.send() {
-            Ok(()) => println!("sent"),
-            Err(error) => println!("{error}: {} bytes wait", outbox.waiting.len()),
+            None => println!("nothing to send"),
+            Some(Answer::Taken(rejected)) => println!("sent, {rejected} points rejected"),
+            Some(Answer::Again(_)) => println!("not taken: {} bytes wait", outbox.waiting.len()),
+            Some(Answer::Refused(status)) => println!("dropped: status {status}"),
         }
     }
     if let Some(own) = own {

@@ -39,7 +39,7 @@ struct InFlight<'a> {
 impl InFlight<'_> {
     fn end(&mut self) -> Result<(), Refusal> {
         match std::mem::take(&mut self.is_counted) {
-            true => self.recorder.record_prepared(self.active, -1),
+            true => self.recorder.count_out(self.active),
             false => Ok(()),
         }
     }
@@ -53,15 +53,33 @@ impl Drop for InFlight<'_> {
 }
 
 impl Recorder {
+    // Counts some work in, where a recording is left to count it out, beside those for the work that is under way.
+    fn count_in(&mut self, active: &Prepared) -> Result<(), Refusal> {
+        let on = &active.instrument;
+        let under_way = self.under_way.iter().filter(|one| one.is(on)).count() as u64;
+        if self.left(on)? < under_way + 2 {
+            return Err(Refusal::Budget);
+        }
+        self.record_prepared(active, 1)?;
+        self.under_way.push(on.clone());
+        Ok(())
+    }
+
+    fn count_out(&mut self, active: &Prepared) -> Result<(), Refusal> {
+        self.under_way.pop();
+        self.record_prepared(active, -1)
+    }
+
     /// Does some work, and counts it as under way meanwhile: 1 is added to an up-down counter before it, and taken away after
     /// it, also where it ends by `?` or in a panic. The work is done whatever is refused; where the first recording is, the second
-    /// is left out. With what the work gave comes the first [`Refusal`].
+    /// is left out. The first one is refused as [`Refusal::Budget`] too where none would be left for the second. With what the
+    /// work gave comes the first [`Refusal`].
     pub fn during<T>(
         &mut self,
         active: &Prepared,
         work: impl FnOnce(&mut Recorder) -> T,
     ) -> (T, Result<(), Refusal>) {
-        let began = self.record_prepared(active, 1);
+        let began = self.count_in(active);
         let mut under_way = InFlight {
             recorder: self,
             active,

@@ -107,7 +107,8 @@ impl Reader {
         self.encoded(0, resource).map_err(ResourceFault::of)
     }
 
-    /// The same as a line of OTLP/JSON.
+    /// The same as a line of OTLP/JSON, which a collector takes as `application/json`. Each line is a post of its own: of
+    /// several, a collector reads the first alone.
     ///
     /// # Errors
     ///

@@ -23,6 +23,8 @@ pub struct Recorder {
     few: FewAttributes,
     room: Room,
     list: Vec<raw::Prepared>,
+    // The instruments on which work under way is counted in, the last one last.
+    pub(crate) under_way: Vec<Instrument>,
 }
 
 /// The recordings that a recorder may make on an instrument, and those that it has made.
@@ -41,7 +43,7 @@ pub struct Budget {
 /// A set of attributes that was found once, for an instrument.
 #[derive(Clone)]
 pub struct Prepared {
-    instrument: Instrument,
+    pub(crate) instrument: Instrument,
     own: raw::Prepared,
 }
 
@@ -69,6 +71,7 @@ impl Recorder {
             few: FewAttributes::default(),
             room: Room::default(),
             list: Vec::new(),
+            under_way: Vec::new(),
         }
     }
 

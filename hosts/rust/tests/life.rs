@@ -140,7 +140,10 @@ fn pages_have_all_instruments() -> Result<(), Box<dyn std::error::Error>> {
     let twice = Resource::new(&[("a", 1.into()), ("a", 2.into())]);
     assert_eq!(twice.page(Dialect::Text), Err(ResourceFault::RepeatedKey));
     let alike = Resource::new(&[("a.b", 1.into()), ("a_b", 2.into())]);
-    assert_eq!(alike.page(Dialect::Text), Err(ResourceFault::LabelCollision));
+    assert_eq!(
+        alike.page(Dialect::Text),
+        Err(ResourceFault::LabelCollision)
+    );
     let signs = Resource::new(&[("...", 1.into())]);
     assert_eq!(signs.page(Dialect::Text), Err(ResourceFault::BadLabel));
     Ok(())
@@ -270,12 +273,12 @@ fn work_is_counted_as_under_way_until_it_ends() -> Result<(), Box<dyn std::error
     assert!(panicked.is_err());
     let ((answer, timed), counted) =
         worker.during(&lane, |worker| worker.timed(&all, TimeUnit::Seconds, |_| 7));
-    // The fifth recording was the last of the budget, so the end of the third piece of work is refused.
+    // One recording is left, which could not be taken back: the third piece of work is not counted in.
     assert_eq!((answer, timed, counted), (7, Ok(()), Err(Refusal::Budget)));
     let (answer, counted) = worker.during(&lane, |_| 8);
     assert_eq!((answer, counted), (8, Err(Refusal::Budget)));
     let totals = run.metrics.settle(&mut run.recorders)?;
-    assert_eq!(totals[0], Total { count: 5, sum: 1 });
+    assert_eq!(totals[0], Total { count: 4, sum: 0 });
     assert_eq!(totals[1].count, 1);
     Ok(())
 }

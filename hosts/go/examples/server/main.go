@@ -109,18 +109,21 @@ func (own *noted) WriteHeader(status int) {
 // Measures a handler. Each request has a recorder of its own while it is served, and is served whether it is counted or
 // not.
 func measured(handler http.Handler, metrics *wormweekly.Metrics) http.Handler {
-	requests, duration, inFlight := metrics.Instruments[0], metrics.Instruments[1], metrics.Instruments[2]
+	requests, duration := metrics.Instruments[0], metrics.Instruments[1]
+	inFlight, err := metrics.Instruments[2].Bind()
+	tell(err)
 	pool := wormweekly.NewPool(metrics.Recorders...)
 	return http.HandlerFunc(func(writer http.ResponseWriter, request *http.Request) {
 		own, err := pool.Get(request.Context())
 		if err != nil {
 			return // whoever asked has gone
 		}
-		defer pool.Put(own)
+		defer func() { tell(pool.Put(own)) }()
 		route := wormweekly.String("route", routeOf(request))
 		began := time.Now()
-		tell(own.Record(inFlight, 1))
-		defer func() { tell(own.Record(inFlight, -1)) }()
+		out, err := own.InFlight(inFlight)
+		tell(err)
+		defer func() { tell(out()) }()
 		answer := &noted{writer, http.StatusOK}
 		handler.ServeHTTP(answer, request)
 		tell(own.Record(duration, time.Since(began).Milliseconds(), route))

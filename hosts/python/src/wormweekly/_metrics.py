@@ -3,6 +3,7 @@
 from __future__ import annotations
 
 import time
+from collections import Counter
 from collections.abc import Mapping
 from dataclasses import dataclass
 from enum import IntEnum
@@ -111,20 +112,23 @@ class Instrument(_library.Instrument):
         return Timer(recorder, self.bind(attributes), unit, refused)
 
     def in_flight(self, recorder: Recorder, attributes: Attributes, refused: Handler = None) -> InFlight:
-        """A `with` that counts its block in and out, on an up-down counter. The attributes are looked up before it. A
-        later refusal is raised, or given to `refused`."""
-        return InFlight(recorder, self.bind(attributes), refused)
+        """A `with` that counts its block in and out, on an up-down counter, if the recorder has a recording left for each.
+        The attributes are looked up before it. A later refusal is raised, or given to `refused`."""
+        return InFlight(recorder, self, self.bind(attributes), refused)
 
     def __repr__(self) -> str:
         return f"<wormweekly.Instrument {self._number} {self._meter}/{self._name}>"
 
 
 class Recorder(_library.Recorder):
-    """The seat of a recorder. It is the first thread's that records with it, until another calls `take_over`."""
+    """The seat of a recorder. It is the first thread's that records with it, until another calls `take_over`.
 
-    __slots__ = ("_name", "_number")
+    `under_way` is how many blocks each instrument, by its number, has counted in and not out again."""
+
+    __slots__ = ("_name", "_number", "under_way")
     _name: str
     _number: int
+    under_way: Counter[int]
 
     @property
     def name(self) -> str:
@@ -174,8 +178,9 @@ class Reader(_library.Reader):
         self, instrument: Instrument, resource: Attributes, now: int | None = None, *, json: bool = False
     ) -> bytes:
         """The same in the OpenTelemetry protocol, with the attributes of the resource: a message that a collector takes
-        at /v1/metrics as application/x-protobuf, or a line of JSON; empty where there are no points. Messages one after
-        the other are one message. Keep one that was not taken: a delta reader does not give its window again."""
+        at /v1/metrics as application/x-protobuf, or a line of JSON, as application/json; empty where there are no points.
+        Messages in bytes, one after the other, are one message; each line of JSON is a post of its own. Keep one that
+        was not taken: a delta reader does not give its window again."""
         return self._collect_otlp(instrument, time.time_ns() if now is None else now, resource, json)
 
     def prometheus(
@@ -282,6 +287,7 @@ def _instrument(run: _library.Run, number: int) -> Instrument:
 def _recorder(run: _library.Run, number: int) -> Recorder:
     made = run.recorder(Recorder, number)
     made._number = number
+    made.under_way = Counter()
     made._name = run.name(_RECORDER_NAME, number)
     return made
 

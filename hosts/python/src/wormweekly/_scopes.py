@@ -5,10 +5,13 @@ from __future__ import annotations
 import time
 from collections.abc import Callable
 from types import TracebackType
-from typing import Optional
+from typing import TYPE_CHECKING, Optional
 
-from wormweekly._library import Bound, Recorder
-from wormweekly._refusals import Refusal
+from wormweekly._library import Bound
+from wormweekly._refusals import Refusal, refusal_of
+
+if TYPE_CHECKING:
+    from wormweekly._metrics import Instrument, Recorder
 
 Handler = Optional[Callable[[Refusal], object]]
 
@@ -28,13 +31,16 @@ class _Scope:
         try:
             self._recorder.add(self._bound, value)
         except Refusal as refusal:
-            self.refusal = refusal
-            if self._handler is not None:
-                self._handler(refusal)
-            elif not has_failed:
-                raise
+            self._tell(refusal, has_failed)
             return False
         return True
+
+    def _tell(self, refusal: Refusal, has_failed: bool = False) -> None:
+        self.refusal = refusal
+        if self._handler is not None:
+            self._handler(refusal)
+        elif not has_failed:
+            raise refusal
 
 
 class Timer(_Scope):
@@ -56,14 +62,33 @@ class Timer(_Scope):
 
 
 class InFlight(_Scope):
-    """Counts a block in, and out again where it was counted in."""
+    """Counts a block in, and out again where it was counted in. Where fewer than two recordings are left for it, beside
+    those that count out the blocks under way, it is refused, so that no block stays counted in."""
 
-    __slots__ = ("_is_in",)
+    __slots__ = ("_instrument", "_is_in")
+
+    def __init__(self, recorder: Recorder, instrument: Instrument, bound: Bound, handler: Handler) -> None:
+        super().__init__(recorder, bound, handler)
+        self._instrument = instrument
 
     def __enter__(self) -> InFlight:
-        self._is_in = self._add(1)
+        self._is_in = self._has_room() and self._add(1)
+        if self._is_in:
+            self._recorder.under_way[self._instrument.number] += 1
         return self
 
     def __exit__(self, kind: type[BaseException] | None, fault: BaseException | None, at: TracebackType | None) -> None:
         if self._is_in:
+            self._recorder.under_way[self._instrument.number] -= 1
             self._add(-1, fault is not None)
+
+    def _has_room(self) -> bool:
+        try:
+            left = self._recorder.budget(self._instrument).left
+        except Refusal as refusal:
+            self._tell(refusal)
+            return False
+        if left < self._recorder.under_way[self._instrument.number] + 2:
+            self._tell(refusal_of(9, None))
+            return False
+        return True
