@@ -72,6 +72,26 @@ FAULTS: list[tuple[Any, Any, type[Refusal]]] = [
 ]
 
 
+class Nameless(type):
+    """A type whose name is no text, or raises."""
+
+    name: object
+
+    def __new__(cls, name: object) -> "Nameless":
+        made = super().__new__(cls, "Nameless", (), {})
+        made.name = name
+        return made
+
+    def __init__(cls, name: object) -> None:
+        pass
+
+    @property
+    def __name__(cls) -> object:  # type: ignore[override]
+        if isinstance(cls.name, BaseException):
+            raise cls.name
+        return cls.name
+
+
 class Refusals(unittest.TestCase):
     def setUp(self) -> None:
         self.metrics = opened()
@@ -127,6 +147,14 @@ class Refusals(unittest.TestCase):
         for call, *arguments in calls:
             with self.subTest(call=call.__name__, arguments=str(arguments)):
                 self.refused(TypeRefusal, "WrongType", call, *arguments)
+        self.assertEqual(self.metrics.settle()[0].count, 0)
+
+    def test_types_without_a_name(self) -> None:
+        for name in (12345, KeyError("no name")):
+            with self.subTest(name=name):
+                self.refused(TypeRefusal, "WrongType", self.first.record, self.requests, HOME, Nameless(name)())
+        with self.assertRaises(KeyboardInterrupt):
+            self.first.record(self.requests, HOME, Nameless(KeyboardInterrupt())())  # type: ignore[arg-type]
         self.assertEqual(self.metrics.settle()[0].count, 0)
 
     def test_budget(self) -> None:

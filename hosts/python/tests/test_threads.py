@@ -1,6 +1,7 @@
 """Threads and processes."""
 
 import os
+import sys
 import threading
 import unittest
 from collections.abc import Callable
@@ -8,7 +9,7 @@ from concurrent.futures import ThreadPoolExecutor
 from typing import TypeVar
 
 from tests.plans import HOME, opened
-from wormweekly import Pool, Sum, ThreadRefusal
+from wormweekly import Bound, Pool, StrangerRefusal, Sum, ThreadRefusal
 
 T = TypeVar("T")
 
@@ -108,6 +109,38 @@ class Threads(unittest.TestCase):
             totals.append(self.metrics.roll_over()[0].count)
         worker.join()
         self.assertEqual(sum(totals) + self.metrics.settle()[0].count, made)
+
+    def test_a_list_that_another_thread_empties(self) -> None:
+        # The only bound set of another run goes while this thread waits for its recorder.
+        items: list[tuple[Bound, int]] = []
+        refused = 0
+        ended = threading.Event()
+
+        def settle() -> None:
+            while not ended.is_set():
+                self.metrics.settle()
+
+        def empty() -> None:
+            while not ended.is_set():
+                items.clear()
+
+        others = [threading.Thread(target=work) for work in (settle, settle, empty)]
+        interval = sys.getswitchinterval()
+        sys.setswitchinterval(1e-6)
+        for other in others:
+            other.start()
+        for _ in range(200):
+            items.append((opened().instrument("requests").bind(HOME), 1))
+            try:
+                self.first.add_all(items)
+            except StrangerRefusal:
+                refused += 1
+        ended.set()
+        for other in others:
+            other.join()
+        sys.setswitchinterval(interval)
+        self.assertEqual(self.metrics.settle()[0].count, 0)
+        self.assertTrue(refused <= 200)
 
     def is_refused_to_a_new_run(self) -> bool:
         own = opened()
