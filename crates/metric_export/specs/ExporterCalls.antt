@@ -5,7 +5,7 @@ use Rattle.metric_io.specs.Counts.{HasFailed}
 use Rattle.metric_io.specs.declared.devices.Broken.{Broken}
 use Rattle.metric_history.specs.declared.batch.Batch.{Batch}
 use Rattle.metric_plan.specs.Plans.{PlanValue}
-use Rattle.metric_export.specs.Exports.{Exports, KeepsNone, Retries, is_own}
+use Rattle.metric_export.specs.Exports.{Exports, KeepsNone, is_own}
 use Rattle.metric_export.specs.States.{Answers, GoesOn, TextExporterValue, refused_in, state_after}
 use Rattle.metric_export.specs.declared.fault.ExportFault.{ExportFault}
 use Rattle.metric_export.specs.declared.fault.ExportFault.TheVariants as fault
@@ -57,7 +57,7 @@ pub record IsRetry {E : Type 0}
     (plan : PlanValue)
     (old new : E)
     (answer : Result (Unit {0}) ExportFault) : Type 0 where
-  pub own : Retries gives old new plan answer
+  pub own : gives old new plan answer
   pub keeps : Keeps (contents old) (contents new)
   pub same_text : text new ≡ text old
   pub goes_on : GoesOn (state old) (state new) answer

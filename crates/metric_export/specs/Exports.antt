@@ -1,5 +1,5 @@
 -- What a call that hands on a batch appends.
-use Rattle.std.specs.Prelude.{◌≡◌, ◌⊎◌, ◌==◌, ℕ, Bool, true, false, List, Option, Result, Ok, Err}
+use Rattle.std.specs.Prelude.{◌≡◌, ◌==◌, ℕ, Bool, true, false, List, Option, Result, Ok, Err}
 use Rattle.std.specs.Io.KnownBytes.{Appends, Keeps}
 use Rattle.metric_io.specs.Prefix.{AppendsPrefix}
 use Rattle.metric_history.specs.declared.batch.Batch.{Batch}
@@ -49,9 +49,3 @@ KeepsNone own (Err ShutDown) = Unit {0}
 KeepsNone own (Err Memory) = Unit {0}
 KeepsNone own (Err Kept) = ⊥
 KeepsNone own (Err OtherPlan) = own ≡ false
-
--- what a new try of what an exporter keeps did: nothing, or what the exporter says of it
-abbrev pub Retries : {E : Type 0} → (E → E → PlanValue → Result (Unit {0}) ExportFault → Type 0)
-    → E → E → PlanValue → Result (Unit {0}) ExportFault → Type 0
-Retries gives old new plan answer =
-    ((new ≡ old) × (answer ≡ Ok tt)) ⊎ gives old new plan answer

@@ -1,10 +1,10 @@
 //! What every exporter promises.
-ghost use Rattle.std.specs.Prelude.{◌≡◌, ℕ, false, Err, List, Option, Result};
+ghost use Rattle.std.specs.Prelude.{◌≡◌, ℕ, false, Err, List, Ok, Option, Result};
 ghost use Rattle.std.specs.Io.KnownBytes.{Keeps};
 ghost use Rattle.metric_io.specs.Counts.{HasFailed};
 ghost use Rattle.metric_history.specs.declared.batch.Batch.{Batch};
 ghost use Rattle.metric_plan.specs.Plans.{PlanValue};
-ghost use Rattle.metric_export.specs.Exports.{Exports, Retries, is_own};
+ghost use Rattle.metric_export.specs.Exports.{Exports, is_own};
 ghost use Rattle.metric_export.specs.States.{Answers, GoesOn, refused_in};
 ghost use Rattle.metric_export.specs.declared.fault.ExportFault.{ExportFault};
 ghost use Rattle.metric_export.specs.declared.state.ExporterState.{ExporterState};
@@ -41,8 +41,8 @@ pub trait MetricExporter {
     // What a flush does to it, by the answer.
     ghost flush_gives: { Self → Self → Result (Unit {0}) ExportFault → Type 0 } = { λ _ _ _. Unit {0} };
 
-    // What a new try of what it keeps does to it, by the plan and the answer, for an exporter that keeps batches.
-    ghost retry_gives: { Self → Self → PlanValue → Result (Unit {0}) ExportFault → Type 0 } = { λ _ _ _ _. ⊥ };
+    // What a new try of what it keeps does to it, by the plan and the answer: nothing, where nothing else is said.
+    ghost retry_gives: { Self → Self → PlanValue → Result (Unit {0}) ExportFault → Type 0 } = { λ old new _ answer. (new ≡ old) × (answer ≡ Ok tt) };
 
     // What a shutdown does to it, by the answer.
     ghost shutdown_gives: { Self → Self → Result (Unit {0}) ExportFault → Type 0 };
@@ -80,8 +80,8 @@ pub trait MetricExporter {
         ensures gives { flush_gives self.old self.new result };
 
     /// Tries again at once what the exporter keeps of earlier calls, as at the end of a service. An exporter that never
-    /// answers [`ExportFault::Kept`] keeps nothing, and has nothing to write here. Nothing is appended that contracts
-    /// know: one that keeps batches tells no `contents`.
+    /// answers [`ExportFault::Kept`] keeps nothing: it answers `Ok`, and leaves the ghost `retry_gives` as it is. Nothing
+    /// is appended that contracts know: one that keeps batches tells no `contents`.
     ///
     /// # Errors
     ///
@@ -91,10 +91,7 @@ pub trait MetricExporter {
         ensures text { Keeps (contents self.old) (contents self.new) }
         ensures same_text { text self.new ≡ text self.old }
         ensures state { GoesOn (state self.old) (state self.new) result }
-        ensures gives { Retries retry_gives self.old self.new plan.now result }
-    {
-        Ok(())
-    }
+        ensures gives { retry_gives self.old self.new plan.now result };
 
     /// Flushes, and takes no call from then on, whatever it answers. No text is added. The errors are
     /// those of [`export`](MetricExporter::export).

@@ -1,6 +1,4 @@
 //! An exporter that is lent.
-ghost use Rattle.metric_export.specs.Exports.{Retries};
-
 use crate::exporter::MetricExporter;
 use crate::fault::ExportFault;
 use metric_history::Batch;
@@ -21,8 +19,7 @@ impl<E: MetricExporter> MetricExporter for &mut E {
 
     ghost flush_gives = { λ old new. E.flush_gives old.now new.now };
 
-    ghost retry_gives = { λ old new plan answer.
-        Retries E.retry_gives old.now new.now plan answer };
+    ghost retry_gives = { λ old new. E.retry_gives old.now new.now };
 
     ghost shutdown_gives = { λ old new. E.shutdown_gives old.now new.now };
 

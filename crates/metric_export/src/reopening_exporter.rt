@@ -147,6 +147,10 @@ impl<O: OpenSink<W>, W: Sink + Drop, E: Encoding + Drop> MetricExporter
         answer
     }
 
+    fn retry(&mut self, _alloc: Global, _plan: &Plan) -> Result<(), ExportFault> {
+        Ok(())
+    }
+
     fn shutdown(&mut self) -> Result<(), ExportFault> {
         let answer = self.force_flush();
         self.state = ExporterState::ShutDown;

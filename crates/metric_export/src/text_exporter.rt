@@ -154,6 +154,10 @@ impl<W: Sink, E: Encoding + Drop> MetricExporter for TextExporter<W, E> {
         answer
     }
 
+    fn retry(&mut self, _alloc: Global, _plan: &Plan) -> Result<(), ExportFault> {
+        Ok(())
+    }
+
     fn shutdown(&mut self) -> Result<(), ExportFault>
         ensures text { Keeps (W.contents self.old.sink) (W.contents self.new.sink) }
         ensures encoding { self.new.encoding ≡ self.old.encoding }

@@ -211,6 +211,10 @@ impl<P: Pages + Drop> MetricExporter for PageExporter<P> {
         self.hand_on()
     }
 
+    fn retry(&mut self, _alloc: Global, _plan: &Plan) -> Result<(), ExportFault> {
+        Ok(())
+    }
+
     fn shutdown(&mut self) -> Result<(), ExportFault> {
         let answer = self.force_flush();
         self.state = ExporterState::ShutDown;
