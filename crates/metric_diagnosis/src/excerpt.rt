@@ -1,5 +1,5 @@
 //! A line of a text with a mark.
-use crate::sentence::write_two;
+use crate::sentence::write_three;
 use crate::shown::visible;
 use metric_advice::Position;
 use std::fmt;
@@ -33,11 +33,28 @@ impl fmt::Display for Excerpt<'_> {
         match self.position {
             Some(Position { line, column }) => {
                 let window = Window::new(self.line, column.saturating_sub(1));
-                write!(f, "{line:>5}")?;
-                write_two(f, (" | ", &window), ("\n      | ", &window.mark()), "\n")
+                let number = (indent_of(line), &line);
+                write_three(
+                    f,
+                    number,
+                    (" | ", &window),
+                    ("\n      | ", &window.mark()),
+                    "\n",
+                )
             }
             None => Ok(()),
         }
+    }
+}
+
+// The blanks before the number of a line, which stands at the right of five places.
+fn indent_of(line: usize) -> &'static str {
+    match line {
+        0..=9 => "    ",
+        10..=99 => "   ",
+        100..=999 => "  ",
+        1_000..=9_999 => " ",
+        _ => "",
     }
 }
 
@@ -80,11 +97,15 @@ impl fmt::Display for Window<'_> {
         if self.start > 0 {
             f.write_str(CUT)?;
         }
-        for character in self.text.chars().skip(self.start).take(WIDTH) {
-            f.write_char(visible(character))?;
-        }
-        if self.text.chars().skip(self.start).count() > WIDTH {
-            f.write_str(CUT)?;
+        let mut place = 0usize;
+        for character in self.text.chars() {
+            if place.saturating_sub(self.start) >= WIDTH {
+                return f.write_str(CUT);
+            }
+            if place >= self.start {
+                f.write_char(visible(character))?;
+            }
+            place = place.saturating_add(1);
         }
         Ok(())
     }

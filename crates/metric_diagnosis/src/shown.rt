@@ -35,7 +35,12 @@ impl fmt::Display for Quoted<'_> {
             return write!(f, "{text:?}");
         }
         f.write_str("\"")?;
-        for character in text.chars().take(MOST) {
+        let mut left = MOST;
+        for character in text.chars() {
+            if left == 0 {
+                break;
+            }
+            left -= 1;
             f.write_char(visible(character))?;
         }
         f.write_str("..\"")

@@ -82,11 +82,15 @@ fn push_json_letter(line: &mut String, letter: char) -> Result<(), AllocError> {
         '\n' => line.push_str("\\n"),
         '\r' => line.push_str("\\r"),
         '\t' => line.push_str("\\t"),
-        '\0'..='\u{1f}' => push_json_code(line, letter as u32),
+        '\0'..='\u{1f}' => push_json_control(line, letter as usize),
         _ => line.push(letter),
     }
 }
 
-fn push_json_code(line: &mut String, code: u32) -> Result<(), AllocError> {
-    write!(line, "\\u{code:04x}")
+// Puts a character below U+0020 last, which JSON spells by its number.
+fn push_json_control(line: &mut String, code: usize) -> Result<(), AllocError> {
+    line.push_str(if code < 16 { "\\u000" } else { "\\u001" })?;
+    line.push(HEX[code % 16] as char)
 }
+
+const HEX: [u8; 16] = *b"0123456789abcdef";

@@ -97,7 +97,12 @@ fn push_cell(line: &mut String, text: &str, width: usize, right: bool) -> Result
 
 // Puts the first letters of a text last, and a mark that it goes on.
 fn push_cut(line: &mut String, text: &str, width: usize) -> Result<(), AllocError> {
-    for letter in text.chars().take(width.saturating_sub(1)) {
+    let mut left = width.saturating_sub(1);
+    for letter in text.chars() {
+        if left == 0 {
+            break;
+        }
+        left -= 1;
         line.push(letter)?;
     }
     line.push('…')
