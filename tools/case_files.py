@@ -16,8 +16,9 @@ more text comes after it, and a line that begins with # is a remark.
     then TEXT                 what comes behind the text before, in its last line
 
 A text behind `with`, `=` and `then` may begin with `N times`. A line that ends with `escaped` says that \\r, \\t, \\\\
-and \\xHH are single bytes in it and in its text, and that a backslash joins a line with the next. What a case says takes
-the place of what is shared, and its changes of files come after the shared ones.
+and \\xHH are single bytes in it and in its text, and that a backslash joins a line with the next. What a case says
+takes the place of what is shared, and its changes of files come after the shared ones. A case may have several command
+lines, each with what is said of it below.
 """
 
 import codecs
@@ -45,7 +46,7 @@ class Case:
             self.changes[-1].append(text)
         else:
             self.runs += [{}] if word == "$" and self.runs[-1].get("own") else []
-            self.runs[-1] |= {word: text if word in LINES else name, "own": word == "$" or self.runs[-1].get("own")}
+            self.runs[-1] |= {word: text if word in LINES else name, "own": True}
 
     def written(self):
         """The files as the changes leave them."""

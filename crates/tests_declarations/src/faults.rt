@@ -1,9 +1,24 @@
-//! The printed texts of faults that no program prints as they are.
+//! The printed texts of faults, refusals and remarks that no program prints as they are.
 use crate::asserted::{OrFail, assert_equal};
+use metric_advice::{KeyList, Limit, Remark};
 use metric_catalogue::CatalogueFault;
+use metric_command_lines::LineFault;
+use metric_contents::Refusal;
 use metric_glob::PatternFault;
+use metric_names::{NameFault, UnitFault};
+use metric_parts::InputFault;
 use metric_views::ViewFault;
-use std::alloc::{AllocError, Global};
+use std::alloc::Global;
+use std::fmt::Display;
+use std::process::Abort;
+
+// Asserts that each is printed so.
+fn assert_printed<R: Abort, T: Display>(rt: &R, alloc: Global, rows: &[(T, &str)]) {
+    for (row, wanted) in rows {
+        let told = row.to_string(alloc).or_fail(rt);
+        assert_equal(rt, told.as_str(), *wanted);
+    }
+}
 
 const PATTERNS: &[(PatternFault, &str)] = &[
     (PatternFault::Empty, "1 Empty"),
@@ -12,22 +27,131 @@ const PATTERNS: &[(PatternFault, &str)] = &[
     (PatternFault::Memory, "4 Memory"),
 ];
 
+const NAMES: &[(NameFault, &str)] = &[
+    (NameFault::Empty, "1 Empty"),
+    (NameFault::FirstLetter, "2 FirstLetter"),
+    (NameFault::BadCharacter { at: 3 }, "3 BadCharacter at 3"),
+    (NameFault::TooLong, "4 TooLong"),
+    (NameFault::Memory, "5 Memory"),
+];
+
+const UNITS: &[(UnitFault, &str)] = &[
+    (UnitFault::BadCharacter { at: 4 }, "1 BadCharacter at 4"),
+    (UnitFault::TooLong, "2 TooLong"),
+    (UnitFault::Memory, "3 Memory"),
+];
+
 #[test]
-fn faults_of_patterns_are_printed(rt: HostRuntime) {
-    for (fault, wanted) in PATTERNS {
-        let told = fault.to_string(rt.alloc()).or_fail(&rt);
-        assert_equal(&rt, told.as_str(), *wanted);
-    }
+fn faults_of_words_are_printed(rt: HostRuntime) {
+    assert_printed(&rt, rt.alloc(), PATTERNS);
+    assert_printed(&rt, rt.alloc(), NAMES);
+    assert_printed(&rt, rt.alloc(), UNITS);
 }
 
-fn printed(alloc: Global) -> Result<String, AllocError> {
-    let catalogue = CatalogueFault::Memory;
-    let config = ViewFault::Memory;
-    format!(in alloc; "{catalogue}, {config}")
+#[test]
+fn usage_and_want_of_memory_are_printed(rt: HostRuntime) {
+    let alloc = rt.alloc();
+    assert_printed(
+        &rt,
+        alloc,
+        &[(LineFault::Usage, "usage"), (LineFault::Memory, "memory")],
+    );
+    assert_printed(&rt, alloc, &[(InputFault::Memory, "memory")]);
+    assert_printed(&rt, alloc, &[(CatalogueFault::Memory, "18 Memory")]);
+    assert_printed(&rt, alloc, &[(ViewFault::Memory, "11 Memory")]);
 }
 
+const REFUSALS: &[(Refusal, &str)] = &[
+    (Refusal::Stranger, "12 Stranger"),
+    (Refusal::UnknownInstrument, "1 UnknownInstrument"),
+    (Refusal::UnknownRecorder, "2 UnknownRecorder"),
+    (Refusal::UnknownReader, "2 UnknownReader"),
+    (Refusal::DuplicateKey, "3 DuplicateKey"),
+    (Refusal::UnknownKey, "4 UnknownKey"),
+    (Refusal::UnknownValue, "5 UnknownValue"),
+    (Refusal::MissingKey, "6 MissingKey"),
+    (Refusal::Combination, "13 Combination"),
+    (Refusal::ValueRange, "7 ValueRange"),
+    (Refusal::Closed, "8 Closed"),
+    (Refusal::Budget, "9 Budget"),
+    (Refusal::SumRange, "10 SumRange"),
+    (Refusal::Memory, "11 Memory"),
+];
+
 #[test]
-fn want_of_memory_is_printed(rt: HostRuntime) {
-    let told = printed(rt.alloc()).or_fail(&rt);
-    assert_equal(&rt, told.as_str(), "18 Memory, 11 Memory");
+fn refusals_have_numbers_and_names(rt: HostRuntime) {
+    assert_printed(&rt, rt.alloc(), REFUSALS);
+}
+
+const REMARKS: &[(Remark, &str)] = &[
+    (
+        Remark::Unfit {
+            view: 0,
+            instrument: 1,
+        },
+        "view 0 names an aggregation that does not fit instrument 1",
+    ),
+    (
+        Remark::Collision { first: 1, later: 2 },
+        "stream 2 has the identity of stream 1",
+    ),
+    (
+        Remark::SelectsNothing { view: 1 },
+        "view 1 selects no instrument",
+    ),
+    (
+        Remark::UnknownKey {
+            view: 2,
+            list: KeyList::Keep,
+            place: 2,
+        },
+        "view 2: no selected instrument declares the key keep[2]",
+    ),
+    (
+        Remark::UnknownKey {
+            view: 2,
+            list: KeyList::Exclude,
+            place: 1,
+        },
+        "view 2: no selected instrument declares the key exclude[1]",
+    ),
+    (
+        Remark::UnusedBoundaries { view: 2 },
+        "view 2 gives boundaries, but no stream of it is a histogram",
+    ),
+    (
+        Remark::KeptAndExcluded { view: 2, place: 1 },
+        "view 2 excludes the key keep[1]",
+    ),
+    (
+        Remark::Unrecorded { instrument: 1 },
+        "instrument 1 has no budget and no spare",
+    ),
+    (
+        Remark::NothingAllowed { instrument: 1 },
+        "instrument 1 allows no combination",
+    ),
+    (
+        Remark::OneValue { instrument: 4 },
+        "instrument 4 has one value alone",
+    ),
+    (
+        Remark::OneBucket { stream: 2 },
+        "one bucket of stream 2 takes each value",
+    ),
+    (
+        Remark::OverBudget {
+            instrument: 0,
+            limit: Limit::SumHigh,
+        },
+        "instrument 0 has larger budgets than is safe",
+    ),
+    (Remark::NoBudget { recorder: 1 }, "recorder 1 has no budget"),
+    (Remark::NoRecorder, "there is no recorder"),
+    (Remark::NoReader, "there is no reader"),
+];
+
+#[test]
+fn remarks_are_printed(rt: HostRuntime) {
+    assert_printed(&rt, rt.alloc(), REMARKS);
 }

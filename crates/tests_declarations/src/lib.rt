@@ -1,53 +1,26 @@
-//! Tests of the crates of declarations and certificates: patterns, catalogues, configs, the streams that they give,
-//! their picture, and what certifies them.
+//! Tests of what calls of the lower crates answer where no program shows it: devices, copies, printed texts, what a host
+//! is told. What a program shows is in the cases of `tests/`.
 //!
-//! A module tests one crate through its public surface. It has what no clause says: examples from outside, printed
-//! texts, and that a call succeeds while memory is there.
+//! A module has what no clause says: examples from outside, printed texts, and that a call succeeds while memory is there.
 #![tactic(auto)]
 
 #[cfg(test)]
-mod advice;
-#[cfg(test)]
 mod asserted;
 #[cfg(test)]
-mod catalogue;
+mod base;
+#[cfg(test)]
+mod calls;
 #[cfg(test)]
 mod certificates;
 #[cfg(test)]
-mod changes;
+mod devices;
 #[cfg(test)]
-mod combinations;
-#[cfg(test)]
-mod config;
-#[cfg(test)]
-mod declared;
-#[cfg(test)]
-mod diagnoses;
-#[cfg(test)]
-mod encoding;
+mod explained;
 #[cfg(test)]
 mod exposures;
 #[cfg(test)]
-mod families;
-#[cfg(test)]
 mod faults;
 #[cfg(test)]
-mod outlets;
+mod memory;
 #[cfg(test)]
-mod pictures;
-#[cfg(test)]
-mod refused_certificates;
-#[cfg(test)]
-mod remarks;
-#[cfg(test)]
-mod short_service;
-#[cfg(test)]
-mod shorts;
-#[cfg(test)]
-mod spares;
-#[cfg(test)]
-mod streams;
-#[cfg(test)]
-mod unknown_fields;
-#[cfg(test)]
-mod words;
+mod values;
