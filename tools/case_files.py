@@ -12,7 +12,7 @@ more text comes after it, and a line that begins with # is a remark.
     memory N                  how many MiB it has at most
     file NAME, append NAME    a file of the case, and what comes behind it
     replace OLD, with NEW     a piece that stands once in all files of the case, and what takes its place
-    OLD = NEW                 the same of a word in capitals
+    OLD = NEW                 the same of a word in capitals; what a case says of it takes the place of what is shared
     then TEXT                 what comes behind the text before, in its last line
 
 A text behind `with`, `=` and `then` may begin with `N times`. A line that ends with `escaped` says that \\r, \\t, \\\\
@@ -43,7 +43,8 @@ class Case:
         elif word in ("append", "replace"):
             self.changes.append([name, text])
         elif word == "with":
-            self.changes[-1].append(text)
+            change = [*self.changes.pop(), text]
+            self.changes = [one for one in self.changes if one[:2] != change[:2]] + [change]
         else:
             self.runs += [{}] if word == "$" and self.runs[-1].get("own") else []
             self.runs[-1] |= {word: text if word in LINES else name, "own": True}

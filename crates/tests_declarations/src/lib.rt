@@ -23,4 +23,6 @@ mod faults;
 #[cfg(test)]
 mod memory;
 #[cfg(test)]
+mod told;
+#[cfg(test)]
 mod values;
