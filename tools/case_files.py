@@ -47,7 +47,8 @@ class Case:
             self.changes = [one for one in self.changes if one[:2] != change[:2]] + [change]
         else:
             self.runs += [{}] if word == "$" and self.runs[-1].get("own") else []
-            self.runs[-1] |= {word: text if word in LINES else name, "own": True}
+            value = text if word in LINES else int(name) if word in ("status", "memory") else name
+            self.runs[-1] |= {word: value, "own": True}
 
     def written(self):
         """The files as the changes leave them."""
