@@ -86,9 +86,9 @@ pub record WritesAnew {O W E : Type 0}
   pub encoding : new.encoding ≡ old.encoding
 
 -- # what goes to sinks opened anew (profile) [ExportsAnew, WritesAnew, FindsSink, WritesText,
--- AnswersWrite, FlushesOpen, FlushesReopening, ShutsReopeningDown]
+-- AnswersWrite, FlushesOpen, FlushesReopening, Reopens, ShutsReopeningDown]
 -- A text goes to the sink that is open, or else to a new one; one that failed is let go, also where
--- a flush failed.
+-- a flush failed, and so is one that is flushed to be opened anew.
 pub record ExportsAnew {O W E : Type 0}
     (text : E → PlanValue → Batch → List ℕ)
     (opens : Opening O W)
@@ -128,6 +128,14 @@ pub record FlushesReopening {O W E : Type 0}
   pub flushed : old.state ≡ Open → FlushesAnew flushes old new answer
   pub state : new.state ≡ old.state
   pub unflushed : old.state ≢ Open → new ≡ old
+
+-- One call of `reopen`: the open sink was flushed, and let go where that was done.
+abbrev pub Reopens : {O W E : Type 0} → Flushing W → ReopeningValue O W E → ReopeningValue O W E
+    → Result (Unit {0}) ExportFault → Type 0
+Reopens {O} {W} {E} flushes old new (Ok done) =
+    (left : ReopeningValue O W E)
+    × (FlushesReopening flushes old left (Ok done) × (new ≡ record left { sink = None }))
+Reopens flushes old new (Err fault) = FlushesReopening flushes old new (Err fault)
 
 -- One call of `shutdown`: the same, and the exporter is shut down.
 pub record ShutsReopeningDown {O W E : Type 0}

@@ -2,7 +2,7 @@
 ghost use Rattle.std.specs.Prelude.{◌≡◌, ◌≢◌, IsErrOf, IsOkUnless, None, Result, true};
 ghost use Rattle.metric_io.specs.declared.devices.Broken.{Broken};
 ghost use Rattle.metric_export.specs.Exports.{is_own};
-ghost use Rattle.metric_export.specs.Reopens.{ExportsAnew, FindsSink, FlushesOpen, FlushesReopening, ShutsReopeningDown};
+ghost use Rattle.metric_export.specs.Reopens.{ExportsAnew, FindsSink, FlushesOpen, FlushesReopening, Reopens, ShutsReopeningDown};
 ghost use Rattle.metric_export.specs.Reopens.{WritesText, WritesToFound};
 
 use crate::batch::write_encoded;
@@ -36,7 +36,7 @@ pub trait OpenSink<W> {
 ///
 /// A sink that failed is let go, so what was written to a sink is whole texts, one after the other, but for the last,
 /// which may be a prefix. A batch whose export failed is not written again: a [`Queued`](crate::Queued) over this
-/// exporter tries that. Contracts see the encoding, what opens the sinks, the open sink, the count of the calls that
+/// exporter tries that. A file that is renamed meanwhile is written on: [`reopen`](ReopeningExporter::reopen) lets it go. Contracts see the encoding, what opens the sinks, the open sink, the count of the calls that
 /// failed, and the state.
 #[derive(Drop)]
 pub struct ReopeningExporter<O, W, E = Plain> {
@@ -94,6 +94,21 @@ impl<O: OpenSink<W>, W: Sink + Drop, E: Encoding + Drop> ReopeningExporter<O, W,
             failures: 0,
             state: ExporterState::Open,
         }
+    }
+
+    /// Flushes the sink that is open, and lets it go: the next export opens a new one. A file that is renamed, as one that
+    /// is rotated, is no failure of its sink, which writes on to it until this call.
+    ///
+    /// # Errors
+    ///
+    /// [`ExportFault::Write`] where the flush failed, and the sink is let go all the same; [`ExportFault::ShutDown`] after
+    /// a shutdown.
+    pub fn reopen(&mut self) -> Result<(), ExportFault>
+        ensures { Reopens W.flush_gives self.old self.new result }
+    {
+        self.force_flush()?;
+        self.sink = None;
+        Ok(())
     }
 
     /// The opener, and the sink that is open.
