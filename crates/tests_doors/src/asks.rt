@@ -1,7 +1,9 @@
 //! Tests of a seat that asks for more before its budget ends.
-use crate::asserted::{OrFail, assert_equal};
+use crate::asserted::OrFail;
+use crate::page::Page;
+use crate::services::{Service, counted};
 use metric_handles::{Asking, Counted, Counter, Recorded, counter};
-use metric_sdk::{Marked, MeterProvider, NoGate, Plan, Recorder, Refusal, certified_plan, start};
+use metric_sdk::{MeterProvider, Plan, Refusal};
 use std::alloc::Global;
 use std::process::Abort;
 use std::sync::Wait;
@@ -34,97 +36,61 @@ enum Step {
     Close,
 }
 
-// How many a seat asks for at once, and steps with what they come to: how many orders were made, refused for the budget
+// How many a seat asks for at once, steps, and what each comes to: how many orders were made, refused for the budget
 // and not tried, what is left of the spare, and whether the seat wants the next run.
-type Run = (u64, &'static [(Step, &'static str)]);
+type Run = (u64, &'static [Step], &'static str);
 
 const RUNS: &[Run] = &[
     (
         4,
         &[
-            (
-                Step::Add(3),
-                "made 3, refused 0, untried 0, spare 10, wants false",
-            ),
-            (
-                Step::Add(1),
-                "made 4, refused 0, untried 0, spare 6, wants false",
-            ),
-            (
-                Step::Add(3),
-                "made 7, refused 0, untried 0, spare 6, wants false",
-            ),
-            (
-                Step::List(5),
-                "made 12, refused 0, untried 0, spare 1, wants false",
-            ),
-            (
-                Step::Add(1),
-                "made 13, refused 0, untried 0, spare 0, wants false",
-            ),
-            (
-                Step::Add(1),
-                "made 13, refused 1, untried 0, spare 0, wants true",
-            ),
-            (
-                Step::List(2),
-                "made 13, refused 2, untried 1, spare 0, wants true",
-            ),
+            Step::Add(3),
+            Step::Add(1),
+            Step::Add(3),
+            Step::List(5),
+            Step::Add(1),
+            Step::Add(1),
+            Step::List(2),
         ],
+        "(3, 0, 0, 10, false)
+(4, 0, 0, 6, false)
+(7, 0, 0, 6, false)
+(12, 0, 0, 1, false)
+(13, 0, 0, 0, false)
+(13, 1, 0, 0, true)
+(13, 2, 1, 0, true)
+",
     ),
     // Of a list those are made that the spare has room for.
     (
         4,
-        &[(
-            Step::List(20),
-            "made 13, refused 1, untried 6, spare 0, wants true",
-        )],
+        &[Step::List(20)],
+        "(13, 1, 6, 0, true)
+",
     ),
     // One that asks for none at once asks for what it needs.
     (
         0,
-        &[
-            (
-                Step::Add(5),
-                "made 5, refused 0, untried 0, spare 8, wants false",
-            ),
-            (
-                Step::List(0),
-                "made 5, refused 0, untried 0, spare 8, wants false",
-            ),
-            (
-                Step::List(9),
-                "made 13, refused 1, untried 0, spare 0, wants true",
-            ),
-        ],
+        &[Step::Add(5), Step::List(0), Step::List(9)],
+        "(5, 0, 0, 8, false)
+(5, 0, 0, 8, false)
+(13, 1, 0, 0, true)
+",
     ),
     // A closed instrument grants nothing, which no next run mends.
     (
         4,
-        &[
-            (
-                Step::Add(3),
-                "made 3, refused 0, untried 0, spare 10, wants false",
-            ),
-            (
-                Step::Close,
-                "made 3, refused 0, untried 0, spare 10, wants false",
-            ),
-            (
-                Step::Add(2),
-                "made 3, refused 0, untried 0, spare 10, wants false",
-            ),
-        ],
+        &[Step::Add(3), Step::Close, Step::Add(2)],
+        "(3, 0, 0, 10, false)
+(3, 0, 0, 10, false)
+(3, 0, 0, 10, false)
+",
     ),
 ];
 
-// The provider of a run with the seat of its recorder.
-fn open_seat<R: Abort + Wait>(rt: &R, alloc: Global, run: u64) -> (MeterProvider, Recorder) {
-    let plan = certified_plan(alloc, SHOP, READERS).or_fail(rt);
-    match start::<R, Marked, NoGate>(rt, alloc, plan, 0, run, NoGate) {
-        Ok((provider, mut seats, _readers)) => (provider, seats.pop().expect(rt, "no recorder")),
-        Err((_, _, refused)) => Err(refused).or_fail(rt),
-    }
+// A provider in the run of a number, with the seat of its recorder.
+fn shop<R: Abort + Wait>(rt: &R, alloc: Global, run: u64) -> Service {
+    Service::new(rt, alloc, SHOP, READERS, run)
 }
 
 fn asking<R: Abort, S: Drop>(rt: &R, alloc: Global, plan: &Plan, seat: S, each: u64) -> Asking<S> {
@@ -134,16 +100,8 @@ fn asking<R: Abort, S: Drop>(rt: &R, alloc: Global, plan: &Plan, seat: S, each: 
     }
 }
 
-fn counted<R: Abort, S: Drop>(rt: &R, alloc: Global, plan: &Plan, seat: S) -> Counted<S> {
-    match Counted::new(alloc, plan, seat) {
-        Ok(seat) => seat,
-        Err((_, refused)) => Err(refused).or_fail(rt),
-    }
-}
-
 fn do_step<R: Abort + Wait>(
-    rt: &R,
-    alloc: Global,
+    page: &Page<'_, R>,
     provider: &MeterProvider,
     orders: &Counter,
     seat: &mut Till,
@@ -152,82 +110,97 @@ fn do_step<R: Abort + Wait>(
     match step {
         Step::Add(count) => {
             for _turn in 0..*count {
-                let _ = orders.add(rt, provider, seat, &[], 1);
+                let _ = orders.add(page.rt, provider, seat, &[], 1);
             }
         }
         Step::List(count) => {
-            let bound = orders.bind(provider.plan(), &[]).or_fail(rt);
-            let mut list = orders.list(alloc);
+            let bound = orders.bind(provider.plan(), &[]).or_fail(page.rt);
+            let mut list = orders.list(page.alloc);
             for _turn in 0..*count {
-                list.push(&bound, 1).or_fail(rt);
+                list.push(&bound, 1).or_fail(page.rt);
             }
-            let _ = list.add(rt, provider, seat);
+            let _ = list.add(page.rt, provider, seat);
         }
-        Step::Close => provider.close(rt, orders.number()).or_fail(rt),
+        Step::Close => provider.close(page.rt, orders.number()).or_fail(page.rt),
     }
 }
 
-// What a seat was told of and refused, and what is left.
-fn told<R: Abort + Wait>(
-    rt: &R,
-    alloc: Global,
+// Writes what a seat was told of and refused, and what is left.
+fn tell_till<R: Abort + Wait>(
+    page: &mut Page<'_, R>,
     provider: &MeterProvider,
-    orders: &Counter,
-    seat: &Till,
-) -> String {
-    let number = orders.number();
-    let made = seat
-        .seat()
-        .seat()
-        .accepted(number)
-        .map_or(0, |told| told.count);
-    let refused = seat.refused(number, Refusal::Budget);
-    let (untried, wants) = (seat.untried(number), seat.seat().wants_next_run());
-    let spare = provider.spare_left(rt, number).or_fail(rt);
-    let counts = format!(in alloc; "made {made}, refused {refused}, untried {untried}").or_fail(rt);
-    format!(in alloc; "{counts}, spare {spare}, wants {wants}").or_fail(rt)
+    number: u32,
+    till: &Till,
+) {
+    let asking = till.seat();
+    let made = match asking.seat().accepted(number) {
+        Some(told) => told.count,
+        None => 0,
+    };
+    let refused = till.refused(number, Refusal::Budget);
+    let spare = provider.spare_left(page.rt, number).or_fail(page.rt);
+    page.tell((
+        made,
+        refused,
+        till.untried(number),
+        spare,
+        asking.wants_next_run(),
+    ))
+}
+
+fn tell_run<R: Abort + Wait>(page: &mut Page<'_, R>, (each, steps, _): &Run) {
+    let mut service = shop(page.rt, page.alloc, 1);
+    let seat = service.take(page.rt, "till");
+    let provider = &service.provider;
+    let plan = provider.plan();
+    let seat = asking(page.rt, page.alloc, plan, seat, *each);
+    let mut till: Till = counted(page.rt, page.alloc, plan, seat);
+    let orders = counter(plan, "shop", "orders", &[]).or_fail(page.rt);
+    for step in *steps {
+        do_step(page, provider, &orders, &mut till, step);
+        tell_till(page, provider, orders.number(), &till);
+    }
 }
 
 #[test]
 fn a_seat_asks_until_nothing_is_left(rt: HostRuntime) {
-    let alloc = rt.alloc();
-    for (each, steps) in RUNS {
-        let (provider, seat) = open_seat(&rt, alloc, 1);
-        let plan = provider.plan();
-        let mut seat: Till = counted(&rt, alloc, plan, asking(&rt, alloc, plan, seat, *each));
-        let orders = counter(plan, "shop", "orders", &[]).or_fail(&rt);
-        for (step, wanted) in *steps {
-            do_step(&rt, alloc, &provider, &orders, &mut seat, step);
-            let told = told(&rt, alloc, &provider, &orders, &seat);
-            assert_equal(&rt, told.as_str(), wanted);
-        }
+    for run in RUNS {
+        let mut page = Page::new(&rt, rt.alloc());
+        tell_run(&mut page, run);
+        page.assert(run.2);
     }
 }
 
-// How much room a seat makes on the instrument of a number, what is then left to it and of the spare of orders, and
-// whether it wants the next run.
-const ROOMS: &[(u32, u64, (u64, u64, bool))] = &[
-    (0, 2, (3, 10, false)),
-    (0, 5, (7, 6, false)),
-    (0, 5, (7, 6, false)),
-    (9, 50, (7, 6, false)),
-    (0, 14, (13, 0, true)),
-    (0, 1, (13, 0, true)),
-];
+// How much room a seat makes on the instrument of a number.
+const ROOMS: &[(u32, u64)] = &[(0, 2), (0, 5), (0, 5), (9, 50), (0, 14), (0, 1)];
+
+// What is then left to it and of the spare of orders, and whether it wants the next run. In the end what is left of the
+// spare of a provider of another run, of which it makes room.
+const MADE: &str = "(3, 10, false)
+(7, 6, false)
+(7, 6, false)
+(7, 6, false)
+(13, 0, true)
+(13, 0, true)
+10
+";
 
 #[test]
 fn room_is_made_for_a_job(rt: HostRuntime) {
-    let alloc = rt.alloc();
-    let (provider, seat) = open_seat(&rt, alloc, 1);
-    let plan = provider.plan();
-    let mut seat = asking(&rt, alloc, plan, counted(&rt, alloc, plan, seat), 4);
-    for (instrument, needed, wanted) in ROOMS {
-        seat.make_room(&rt, &provider, *instrument, *needed);
-        let room = seat.recorder().room(&rt, &provider, 0).or_fail(&rt);
+    let mut page = Page::new(&rt, rt.alloc());
+    let mut service = shop(&rt, rt.alloc(), 1);
+    let seat = service.take(&rt, "till");
+    let provider = &service.provider;
+    let seat = counted(&rt, rt.alloc(), provider.plan(), seat);
+    let mut seat = asking(&rt, rt.alloc(), provider.plan(), seat, 4);
+    for (instrument, needed) in ROOMS {
+        seat.make_room(&rt, provider, *instrument, *needed);
+        let room = seat.recorder().room(&rt, provider, 0).or_fail(&rt);
         let spare = provider.spare_left(&rt, 0).or_fail(&rt);
-        assert_equal(&rt, (room, spare, seat.wants_next_run()), *wanted);
+        page.tell((room, spare, seat.wants_next_run()));
     }
-    let (other, _) = open_seat(&rt, alloc, 2);
-    seat.make_room(&rt, &other, 0, 99);
-    assert_equal(&rt, other.spare_left(&rt, 0).or_fail(&rt), 10);
+    let other = shop(&rt, rt.alloc(), 2);
+    seat.make_room(&rt, &other.provider, 0, 99);
+    page.tell(other.provider.spare_left(&rt, 0).or_fail(&rt));
+    page.assert(MADE);
 }

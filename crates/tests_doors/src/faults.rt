@@ -1,5 +1,5 @@
 //! Faults of lists, as they are printed.
-use crate::asserted::{OrFail, assert_equal};
+use crate::page::Page;
 use metric_sdk::{AllFault, Refusal, SetsFault};
 
 #[test]
@@ -13,7 +13,9 @@ fn faults_of_lists_tell_where_they_end(rt: HostRuntime) {
         instrument: 2,
         refusal: Refusal::Memory,
     };
-    let told = format!(in rt.alloc(); "{sets}, {all}, {all:?}").or_fail(&rt);
-    let due = "recording 3: 9 Budget, instrument 2: 11 Memory, instrument 2: 11 Memory";
-    assert_equal(&rt, told.as_str(), due);
+    let mut page = Page::new(&rt, rt.alloc());
+    page.say(sets);
+    page.say(&all);
+    page.tell(all);
+    page.assert("recording 3: 9 Budget\ninstrument 2: 11 Memory\ninstrument 2: 11 Memory\n");
 }

@@ -1,16 +1,17 @@
 //! Tests of instruments and seats by name.
-use crate::asserted::{OrFail, assert_equal};
+use crate::asserted::OrFail;
+use crate::page::Page;
+use crate::services::{Service, counted};
 use metric_handles::{
-    BoundCounter, BoundList, Counted, Counter, HandleFault, Replaced, Seat,
+    BoundCounter, BoundList, Counted, Counter, Handle, HandleFault, Replaced, Seat,
     compared_keys_are_bound, compared_keys_are_recorded, counter, gauge, histogram, left,
     take_reader, take_recorder, up_down_counter, value_of,
 };
 use metric_sdk::{
-    Attr, Batch, Collector, Kind, Marked, MeterProvider, NoGate, Plan, Recorder, Refusal,
-    SetsFault, ValueRef, certified_plan, start,
+    Attr, Batch, Kind, Marked, MeterProvider, Plan, Recorder, Refusal, SetsFault, ValueRef,
+    certified_plan,
 };
-use std::alloc::{AllocError, Global};
-use std::fmt::Debug;
+use std::alloc::Global;
 use std::process::Abort;
 use std::sync::Wait;
 
@@ -75,77 +76,76 @@ type Asked = (
 );
 
 const ASKED: &[Asked] = &[
-    (Kind::Counter, "shop", "orders", &["country"], "0"),
-    (Kind::Counter, "shop", "ORDERS", &["paid", "country"], "0"),
-    (Kind::Histogram, "shop", "latency", &[], "3"),
-    (Kind::Gauge, "shop", "stock", &[], "4"),
-    (Kind::UpDownCounter, "door", "inside", &[], "5"),
+    (Kind::Counter, "shop", "orders", &["country"], "0\n"),
+    (Kind::Counter, "shop", "ORDERS", &["paid", "country"], "0\n"),
+    (Kind::Histogram, "shop", "latency", &[], "3\n"),
+    (Kind::Gauge, "shop", "stock", &[], "4\n"),
+    (Kind::UpDownCounter, "door", "inside", &[], "5\n"),
     (
         Kind::Counter,
         "Shop",
         "orders",
         &["country"],
-        "the catalogue has no meter of this name",
+        "the catalogue has no meter of this name\n",
     ),
     (
         Kind::UpDownCounter,
         "shop",
         "inside",
         &[],
-        "the meter has no instrument of this name",
+        "the meter has no instrument of this name\n",
     ),
     (
         Kind::UpDownCounter,
         "shop",
         "waiting",
         &[],
-        "instrument 1 is not the only one of this name in meters of this name",
+        "instrument 1 is not the only one of this name in meters of this name\n",
     ),
     (
         Kind::Gauge,
         "shop",
         "orders",
         &["country"],
-        "the instrument is declared as Counter",
+        "the instrument is declared as Counter\n",
     ),
     (
         Kind::Counter,
         "shop",
         "orders",
         &["region", "country", "country"],
-        "key 1 of the list stands again after it",
+        "key 1 of the list stands again after it\n",
     ),
     (
         Kind::Counter,
         "shop",
         "orders",
         &["paid", "Country"],
-        "key 1 of the list is not declared",
+        "key 1 of the list is not declared\n",
     ),
     (
         Kind::Counter,
         "shop",
         "orders",
         &["paid"],
-        "declared key 0 is not in the list, and may not be left out",
+        "declared key 0 is not in the list, and may not be left out\n",
     ),
 ];
 
-// The number of the handle that is asked for.
-fn number_of(plan: &Plan, asked: &Asked) -> Result<u32, HandleFault> {
-    let (kind, meter, name, keys, _) = asked;
-    match kind {
-        Kind::Counter => Ok(counter(plan, meter, name, keys)?.number()),
-        Kind::UpDownCounter => Ok(up_down_counter(plan, meter, name, keys)?.number()),
-        Kind::Histogram => Ok(histogram(plan, meter, name, keys)?.number()),
-        Kind::Gauge => Ok(gauge(plan, meter, name, keys)?.number()),
+// Writes the number of a handle, or why there is none.
+fn tell_found<R: Abort, K: Drop>(page: &mut Page<'_, R>, found: Result<Handle<K>, HandleFault>) {
+    match found {
+        Ok(handle) => page.say(handle.number()),
+        Err(fault) => page.say(fault),
     }
 }
 
-fn told(alloc: Global, plan: &Plan, asked: &Asked) -> Result<String, AllocError> {
-    match number_of(plan, asked) {
-        Ok(number) => format!(in alloc; "{number}"),
-        Err(fault) => format!(in alloc; "{fault}"),
+fn tell_asked<R: Abort>(page: &mut Page<'_, R>, plan: &Plan, (kind, meter, name, keys, _): &Asked) {
+    match kind {
+        Kind::Counter => tell_found(page, counter(plan, meter, name, keys)),
+        Kind::UpDownCounter => tell_found(page, up_down_counter(plan, meter, name, keys)),
+        Kind::Histogram => tell_found(page, histogram(plan, meter, name, keys)),
+        Kind::Gauge => tell_found(page, gauge(plan, meter, name, keys)),
     }
 }
 
@@ -153,345 +153,240 @@ fn told(alloc: Global, plan: &Plan, asked: &Asked) -> Result<String, AllocError>
 fn an_instrument_is_found_by_name_kind_and_keys(rt: HostRuntime) {
     let plan = certified_plan(rt.alloc(), SHOP, READERS).or_fail(&rt);
     for asked in ASKED {
-        let told = told(rt.alloc(), &plan, asked).or_fail(&rt);
-        assert_equal(&rt, told.as_str(), asked.4);
+        let mut page = Page::new(&rt, rt.alloc());
+        tell_asked(&mut page, &plan, asked);
+        page.assert(asked.4);
     }
 }
 
-// A provider with the seats that it hands out.
-#[derive(Drop)]
-struct Service {
-    provider: MeterProvider,
-    recorders: Vec<Recorder>,
-    collectors: Vec<Collector>,
+fn shop<R: Abort + Wait>(rt: &R, alloc: Global) -> Service {
+    Service::new(rt, alloc, SHOP, READERS, 1)
 }
 
-fn make_service<R: Abort + Wait>(rt: &R, alloc: Global) -> Service {
-    let plan = certified_plan(alloc, SHOP, READERS).or_fail(rt);
-    match start(rt, alloc, plan, 0, 1, NoGate) {
-        Ok((provider, recorders, collectors)) => Service {
-            provider,
-            recorders,
-            collectors,
-        },
-        Err((_, _, refused)) => Err(refused).or_fail(rt),
-    }
-}
-
-// Writes what was taken by a name and which seats are left.
-fn write_taken<R: Abort>(out: &mut String, rt: &R, name: &str, taken: Option<u32>, left: &[u32]) {
-    write!(out, "{name} {taken:?}, left").or_fail(rt);
-    for number in left {
-        write!(out, " {number}").or_fail(rt);
-    }
-    out.push_str("\n").or_fail(rt)
-}
-
-fn recorder_numbers<R: Abort>(rt: &R, alloc: Global, seats: &[Recorder]) -> Vec<u32> {
-    let mut numbers = Vec::new(alloc);
-    for seat in seats {
-        numbers.push(seat.number()).or_fail(rt);
-    }
-    numbers
-}
-
-fn collector_numbers<R: Abort>(rt: &R, alloc: Global, seats: &[Collector]) -> Vec<u32> {
-    let mut numbers = Vec::new(alloc);
-    for seat in seats {
-        numbers.push(seat.number()).or_fail(rt);
-    }
-    numbers
-}
-
-// Writes what is taken of the recorders, one name after the other.
-fn write_recorders<R: Abort>(out: &mut String, rt: &R, alloc: Global, service: &mut Service) {
+// Writes what is taken of the recorders, one name after the other, and which seats are left.
+fn tell_recorders<R: Abort>(page: &mut Page<'_, R>, service: &mut Service) {
     for name in ["Web", "push", "till", "till"] {
-        let plan = service.provider.plan();
-        let taken = take_recorder(plan, &mut service.recorders, name).map(|seat| seat.number());
-        let left = recorder_numbers(rt, alloc, service.recorders.as_slice());
-        write_taken(out, rt, name, taken, left.as_slice());
+        let taken = take_recorder(service.provider.plan(), &mut service.recorders, name);
+        page.tell((name, taken.map(|seat| seat.number())));
+        for seat in &service.recorders {
+            page.tell(seat.number());
+        }
     }
 }
 
-// Writes what is taken of the readers, one name after the other.
-fn write_readers<R: Abort>(out: &mut String, rt: &R, alloc: Global, service: &mut Service) {
+// The same of the readers.
+fn tell_readers<R: Abort>(page: &mut Page<'_, R>, service: &mut Service) {
     for name in ["web", "push", "pull"] {
-        let plan = service.provider.plan();
-        let taken = take_reader(plan, &mut service.collectors, name).map(|seat| seat.number());
-        let left = collector_numbers(rt, alloc, service.collectors.as_slice());
-        write_taken(out, rt, name, taken, left.as_slice());
+        let taken = take_reader(service.provider.plan(), &mut service.readers, name);
+        page.tell((name, taken.map(|seat| seat.number())));
+        for seat in &service.readers {
+            page.tell(seat.number());
+        }
     }
 }
 
-const TAKEN: &str = "Web Some(2), left 0 1
-push None, left 0 1
-till Some(0), left 1
-till None, left 1
-web None, left 0 1
-push Some(0), left 1
-pull Some(1), left
+const TAKEN: &str = "(\"Web\", Some(2))
+0
+1
+(\"push\", None)
+0
+1
+(\"till\", Some(0))
+1
+(\"till\", None)
+1
+(\"web\", None)
+0
+1
+(\"push\", Some(0))
+1
+(\"pull\", Some(1))
 ";
 
 #[test]
 fn seats_are_taken_by_name(rt: HostRuntime) {
-    let mut service = make_service(&rt, rt.alloc());
-    let mut out = String::new(rt.alloc());
-    write_recorders(&mut out, &rt, rt.alloc(), &mut service);
-    write_readers(&mut out, &rt, rt.alloc(), &mut service);
-    assert_equal(&rt, out.as_str(), TAKEN);
+    let mut page = Page::new(&rt, rt.alloc());
+    let mut service = shop(&rt, rt.alloc());
+    tell_recorders(&mut page, &mut service);
+    tell_readers(&mut page, &mut service);
+    page.assert(TAKEN);
+}
+
+// What is asked of a counter without a seat.
+enum Ask {
+    // To bind a country, besides another key.
+    Bind(&'static str),
+    // To replace a value of a key, or an amount, where it is not declared.
+    Known(&'static str, &'static str),
+    Clamp(i64),
+}
+
+const ASKS: &[Ask] = &[
+    Ask::Bind("de"),
+    Ask::Bind("it"),
+    Ask::Known("country", "de"),
+    Ask::Known("country", "it"),
+    Ask::Known("country", "fr"),
+    Ask::Known("contry", "it"),
+    Ask::Clamp(0),
+    Ask::Clamp(1),
+    Ask::Clamp(100),
+    Ask::Clamp(101),
+];
+
+// Keys that were compared are not refused. A key that the instrument does not declare is no value to replace; what is
+// replaced is counted.
+const ANSWERS: &str = "None
+Some(UnknownValue)
+country=de
+country=fr
+country=fr
+4 UnknownKey
+1
+1
+100
+100
+Replaced { values: 1, amounts: 2 }
+";
+
+fn tell_ask<R: Abort>(
+    page: &mut Page<'_, R>,
+    plan: &Plan,
+    orders: &Counter,
+    replaced: &mut Replaced,
+    ask: &Ask,
+) {
+    match ask {
+        Ask::Bind(name) => {
+            let paid = Attr {
+                key: "paid",
+                value: ValueRef::Flag(true),
+            };
+            page.tell(orders.bind(plan, &[paid, country(name)]).err())
+        }
+        Ask::Known(key, name) => {
+            let attr = Attr::text(key, name);
+            match orders.known_or(plan, replaced, attr, ValueRef::Text("fr")) {
+                Ok(attr) => {
+                    page.push(attr.key);
+                    page.push("=");
+                    page.say(attr.value)
+                }
+                Err(refusal) => page.say(refusal),
+            }
+        }
+        Ask::Clamp(value) => {
+            let amount = orders.clamped(plan, replaced, *value);
+            page.tell(amount.or_fail(page.rt))
+        }
+    }
 }
 
 #[test]
-fn keys_that_were_compared_are_not_refused(rt: HostRuntime) {
+fn what_was_compared_is_bound_and_what_is_not_declared_is_replaced(rt: HostRuntime) {
     compared_keys_are_bound();
     compared_keys_are_recorded::<Marked>();
+    let mut page = Page::new(&rt, rt.alloc());
     let plan = certified_plan(rt.alloc(), SHOP, READERS).or_fail(&rt);
-    let orders = counter(&plan, "shop", "orders", &["country", "paid"]).or_fail(&rt);
-    for (name, due) in [("de", None), ("it", Some(Refusal::UnknownValue))] {
-        let paid = Attr {
-            key: "paid",
-            value: ValueRef::Flag(true),
-        };
-        let told = orders.bind(&plan, &[paid, country(name)]).err();
-        assert_equal(&rt, told, due);
+    let orders = counter(&plan, "shop", "Orders", &["country", "paid"]).or_fail(&rt);
+    let mut replaced = Replaced::none();
+    for ask in ASKS {
+        tell_ask(&mut page, &plan, &orders, &mut replaced, ask);
     }
+    page.tell(replaced);
+    page.assert(ANSWERS);
 }
 
 fn country(name: &str) -> Attr<'_> {
-    Attr {
-        key: "country",
-        value: ValueRef::Text(name),
-    }
-}
-
-// Writes what is answered to a call.
-fn write_answer<E: Debug + Drop>(
-    out: &mut String,
-    answer: Result<(), E>,
-) -> Result<(), AllocError> {
-    writeln!(out, "{answer:?}")
+    Attr::text("country", name)
 }
 
 // Orders with attributes at the call, with bound ones, and as lists.
-fn sell<R: Abort + Wait, S: Seat>(
-    out: &mut String,
-    rt: &R,
-    alloc: Global,
-    provider: &MeterProvider,
-    seat: &mut S,
-) {
-    let orders = counter(provider.plan(), "shop", "orders", &["country"]).or_fail(rt);
-    write_answer(out, orders.add(rt, provider, seat, &[country("de")], 2)).or_fail(rt);
-    write_answer(out, orders.add(rt, provider, seat, &[country("it")], 2)).or_fail(rt);
-    let french = orders.bind(provider.plan(), &[country("fr")]).or_fail(rt);
-    write_answer(out, french.add(rt, provider, seat, 3)).or_fail(rt);
-    write_answer(out, french.add(rt, provider, seat, 0)).or_fail(rt);
-    sell_all(out, rt, alloc, provider, seat, &orders, &french)
+fn sell<R: Abort + Wait, S: Seat>(page: &mut Page<'_, R>, provider: &MeterProvider, seat: &mut S) {
+    let (rt, plan) = (page.rt, provider.plan());
+    let orders = counter(plan, "shop", "orders", &["country"]).or_fail(rt);
+    page.tell(orders.add(rt, provider, seat, &[country("de")], 2));
+    page.tell(orders.add(rt, provider, seat, &[country("it")], 2));
+    let french = orders.bind(plan, &[country("fr")]).or_fail(rt);
+    page.tell(french.add(rt, provider, seat, 3));
+    page.tell(french.add(rt, provider, seat, 0));
+    sell_all(page, provider, seat, &orders, &french)
 }
 
 // A list that is made twice, and one that meets the end of the budget, and meets it again with what is left of it.
 fn sell_all<R: Abort + Wait, S: Seat>(
-    out: &mut String,
-    rt: &R,
-    alloc: Global,
+    page: &mut Page<'_, R>,
     provider: &MeterProvider,
     seat: &mut S,
     orders: &Counter,
     french: &BoundCounter,
 ) {
-    let mut list: BoundList<_> = orders.list(alloc);
-    list.push(french, 4).or_fail(rt);
-    let kept = list.add_and_keep(rt, provider, seat);
-    write_left(out, rt, kept, &list);
+    let mut list: BoundList<_> = orders.list(page.alloc);
+    list.push(french, 4).or_fail(page.rt);
+    let kept = list.add_and_keep(page.rt, provider, seat);
+    page.tell((kept, list.len()));
     for values in [0..0, 6..10, 0..0] {
         for value in values {
-            list.push(french, value).or_fail(rt);
+            list.push(french, value).or_fail(page.rt);
         }
-        let answer = list.add(rt, provider, seat);
-        write_left(out, rt, answer, &list);
+        let answer = list.add(page.rt, provider, seat);
+        page.tell((answer, list.len()));
     }
 }
 
-// Writes what a list is answered, and how long it is then.
-fn write_left<R: Abort, K>(
-    out: &mut String,
-    rt: &R,
-    answer: Result<(), SetsFault>,
-    list: &BoundList<K>,
-) {
-    writeln!(out, "{answer:?}, left {}", list.len()).or_fail(rt);
-}
-
-// What is answered to these calls by a seat of either kind.
+// What is answered to these calls by a seat of any kind, and of lists how long they are then.
 const ANSWERED: &str = "Ok(())
 Err(UnknownValue)
 Ok(())
 Err(ValueRange)
-Ok(()), left 1
-Ok(()), left 0
-Err(SetsFault { place: 2, refusal: Budget }), left 2
-Err(SetsFault { place: 0, refusal: Budget }), left 2
+(Ok(()), 1)
+(Ok(()), 0)
+(Err(SetsFault { place: 2, refusal: Budget }), 2)
+(Err(SetsFault { place: 0, refusal: Budget }), 2)
 ";
 
-// How often a seat that counts was refused by these calls: each recording once, each list once with its first refusal.
-const REFUSED_BY_HANDLES: &[(u32, Refusal, u64)] = &[
-    (0, Refusal::UnknownValue, 1),
-    (0, Refusal::ValueRange, 1),
-    (0, Refusal::Budget, 2),
-    (0, Refusal::Combination, 0),
-    (3, Refusal::Budget, 0),
+// Instruments and refusals, of which a seat that counts is asked how often they came.
+const REFUSALS: &[(u32, Refusal)] = &[
+    (0, Refusal::UnknownValue),
+    (0, Refusal::ValueRange),
+    (0, Refusal::Budget),
+    (0, Refusal::Combination),
+    (3, Refusal::Budget),
+    (1, Refusal::ValueRange),
+    (9, Refusal::UnknownInstrument),
+    (77, Refusal::UnknownInstrument),
+    (5, Refusal::UnknownInstrument),
 ];
 
-// The same, one by one.
-const LISTED: &str = "Refused { instrument: 0, refusal: UnknownValue, count: 1 }
+// Writes how often a seat was refused each of these.
+fn tell_refused<R: Abort, S>(page: &mut Page<'_, R>, seat: &Counted<S>) {
+    for (instrument, refusal) in REFUSALS {
+        page.tell(seat.refused(*instrument, *refusal));
+    }
+}
+
+// By calls of handles: each recording once, each list once with its first refusal.
+const SELLING: &str = "1
+1
+2
+0
+0
+0
+0
+0
+0
+";
+
+// Then how many recordings were not tried of two instruments, the refusals one by one, and what was made.
+const LISTED: &str = "(2, 0)
+Refused { instrument: 0, refusal: UnknownValue, count: 1 }
 Refused { instrument: 0, refusal: ValueRange, count: 1 }
 Refused { instrument: 0, refusal: Budget, count: 2 }
+Some(Told { count: 6, amount: 20 })
 ";
-
-#[test]
-fn handles_record_with_a_seat_that_counts(rt: HostRuntime) {
-    let mut service = make_service(&rt, rt.alloc());
-    let provider = &service.provider;
-    let taken = take_recorder(provider.plan(), &mut service.recorders, "till");
-    let seat = taken.expect(&rt, "no till");
-    let Ok(mut counted) = Counted::new(rt.alloc(), provider.plan(), seat) else {
-        panic!(rt; "no memory");
-    };
-    let mut out = String::new(rt.alloc());
-    sell(&mut out, &rt, rt.alloc(), provider, &mut counted);
-    assert_equal(&rt, out.as_str(), ANSWERED);
-    for (instrument, refusal, times) in REFUSED_BY_HANDLES {
-        assert_equal(&rt, counted.refused(*instrument, *refusal), *times);
-    }
-    assert_equal(&rt, (counted.untried(0), counted.untried(1)), (2, 0));
-    let mut listed = String::new(rt.alloc());
-    for refused in counted.refusals(rt.alloc()).or_fail(&rt).as_slice() {
-        writeln!(listed, "{refused:?}").or_fail(&rt);
-    }
-    assert_equal(&rt, listed.as_str(), LISTED);
-    let told = counted.into_seat().accepted(0).map(|told| told.count);
-    assert_equal(&rt, told, Some(6));
-}
-
-#[test]
-fn a_seat_that_counts_is_counted_on(rt: HostRuntime) {
-    let mut service = make_service(&rt, rt.alloc());
-    let provider = &service.provider;
-    let taken = take_recorder(provider.plan(), &mut service.recorders, "till");
-    let seat = taken.expect(&rt, "no till");
-    let Ok(inner) = Counted::new(rt.alloc(), provider.plan(), seat) else {
-        panic!(rt; "no memory");
-    };
-    let Ok(mut outer) = Counted::new(rt.alloc(), provider.plan(), inner) else {
-        panic!(rt; "no memory");
-    };
-    let mut out = String::new(rt.alloc());
-    sell(&mut out, &rt, rt.alloc(), provider, &mut outer);
-    assert_equal(&rt, out.as_str(), ANSWERED);
-    for (instrument, refusal, times) in REFUSED_BY_HANDLES {
-        let counts = [
-            outer.refused(*instrument, *refusal),
-            outer.seat().refused(*instrument, *refusal),
-        ];
-        assert_equal(&rt, counts, [*times, *times]);
-    }
-}
-
-// Writes each point of a batch.
-fn write_points<R: Abort>(out: &mut String, rt: &R, batch: &Batch) {
-    for stream in batch.streams.as_slice() {
-        for point in stream.points.as_slice() {
-            let value = &point.value;
-            writeln!(out, "{} {value:?}", batch.instrument).or_fail(rt);
-        }
-    }
-}
-
-// Writes what is found by name and attributes.
-fn write_found<R: Abort>(out: &mut String, rt: &R, plan: &Plan, batches: &[Batch]) {
-    for name in ["de", "fr", "it"] {
-        let value = value_of(plan, batches, "Orders", &[country(name)]);
-        writeln!(out, "{name} {value:?}").or_fail(rt);
-    }
-    let value = value_of(plan, batches, "orders", &[]);
-    writeln!(out, "none {value:?}").or_fail(rt)
-}
-
-const SOLD: &str = "Ok(())
-Err(UnknownValue)
-Ok(())
-Err(ValueRange)
-Ok(()), left 1
-Ok(()), left 0
-Err(SetsFault { place: 2, refusal: Budget }), left 2
-Err(SetsFault { place: 0, refusal: Budget }), left 2
-0 Sum(2)
-0 Sum(24)
-de Some(Sum(2))
-fr Some(Sum(24))
-it None
-none None
-left Some(0)
-";
-
-#[test]
-fn handles_record_what_they_say(rt: HostRuntime) {
-    let mut service = make_service(&rt, rt.alloc());
-    let mut out = String::new(rt.alloc());
-    let provider = &service.provider;
-    let taken = take_recorder(provider.plan(), &mut service.recorders, "till");
-    let mut seat = taken.expect(&rt, "no till");
-    sell(&mut out, &rt, rt.alloc(), provider, &mut seat);
-    let taken = take_reader(provider.plan(), &mut service.collectors, "pull");
-    let mut reader = taken.expect(&rt, "no pull");
-    let batch = reader
-        .collect(&rt, rt.alloc(), provider, 0, 10)
-        .or_fail(&rt);
-    write_points(&mut out, &rt, &batch);
-    write_found(&mut out, &rt, provider.plan(), &[batch]);
-    let left = left(&seat, provider.plan(), 0);
-    writeln!(&mut out, "left {left:?}").or_fail(&rt);
-    assert_equal(&rt, out.as_str(), SOLD);
-}
-
-// Values of a key and of the range, beside what is declared; a key that the instrument does not declare is no value to
-// replace.
-#[test]
-fn what_is_not_declared_is_replaced_and_counted(rt: HostRuntime) {
-    let plan = certified_plan(rt.alloc(), SHOP, READERS).or_fail(&rt);
-    let orders = counter(&plan, "shop", "Orders", &["country"]).or_fail(&rt);
-    let mut replaced = Replaced::none();
-    let mut out = String::new(rt.alloc());
-    for (key, name) in [
-        ("country", "de"),
-        ("country", "it"),
-        ("country", "fr"),
-        ("contry", "it"),
-    ] {
-        let value = ValueRef::Text(name);
-        let known = orders.known_or(
-            &plan,
-            &mut replaced,
-            Attr { key, value },
-            ValueRef::Text("fr"),
-        );
-        match known {
-            Ok(attr) => write!(&mut out, "{}={} ", attr.key, attr.value).or_fail(&rt),
-            Err(refusal) => write!(&mut out, "{refusal} ").or_fail(&rt),
-        }
-    }
-    for value in [0, 1, 100, 101] {
-        let amount = orders.clamped(&plan, &mut replaced, value).or_fail(&rt);
-        write!(&mut out, "{amount} ").or_fail(&rt);
-    }
-    write!(&mut out, "{replaced:?}").or_fail(&rt);
-    let wanted =
-        "country=de country=fr country=fr 4 UnknownKey 1 1 100 100 Replaced { values: 1, amounts: 2 }";
-    assert_equal(&rt, out.as_str(), wanted);
-}
 
 // An instrument, a country, and a value: one that is accepted, and three refusals.
-const COUNTED: &[(u32, &str, i64)] = &[
+const RECORDED: &[(u32, &str, i64)] = &[
     (0, "de", 2),
     (0, "it", 2),
     (0, "de", 0),
@@ -499,31 +394,121 @@ const COUNTED: &[(u32, &str, i64)] = &[
     (9, "de", 2),
 ];
 
-// An instrument, a refusal, and how often it came; all unknown instruments are one.
-const REFUSED: &[(u32, Refusal, u64)] = &[
-    (0, Refusal::UnknownValue, 1),
-    (0, Refusal::ValueRange, 2),
-    (1, Refusal::ValueRange, 0),
-    (9, Refusal::UnknownInstrument, 1),
-    (77, Refusal::UnknownInstrument, 1),
-    (5, Refusal::UnknownInstrument, 0),
+// How often each refusal came then, where all unknown instruments are one, and what was made.
+const RECORDING: &str = "1
+2
+0
+0
+0
+0
+1
+1
+0
+Some(Told { count: 1, amount: 1 })
+";
+
+// The points of the batch of orders, each with its instrument; what is found by name and attributes; and what is left
+// of the budget.
+const SOLD: &str = "(0, Sum(2))
+(0, Sum(24))
+Some(Sum(2))
+Some(Sum(24))
+None
+None
+Some(0)
+";
+
+// By which seat orders are sold, and what is told.
+enum By {
+    Recorder,
+    // A seat that counts, one that is counted on, and one that counts recordings without handles.
+    Counted,
+    Twice,
+    Recordings,
+}
+
+const SALES: &[(By, &[&str])] = &[
+    (By::Recorder, &[ANSWERED, SOLD]),
+    (By::Counted, &[ANSWERED, SELLING, LISTED]),
+    (By::Twice, &[ANSWERED, SELLING, SELLING]),
+    (By::Recordings, &[RECORDING]),
 ];
 
-#[test]
-fn a_seat_counts_what_it_is_refused(rt: HostRuntime) {
-    let mut service = make_service(&rt, rt.alloc());
+fn tell_recorder<R: Abort + Wait>(page: &mut Page<'_, R>, service: &mut Service, seat: Recorder) {
+    let mut seat = seat;
+    sell(page, &service.provider, &mut seat);
+    let taken = take_reader(service.provider.plan(), &mut service.readers, "pull");
+    let mut reader = taken.expect(page.rt, "no pull");
+    let batch = reader.collect(page.rt, page.alloc, &service.provider, 0, 10);
+    tell_found_points(page, service.provider.plan(), batch.or_fail(page.rt));
+    page.tell(left(&seat, service.provider.plan(), 0))
+}
+
+// Writes each point of a batch, and what is found by name and attributes.
+fn tell_found_points<R: Abort>(page: &mut Page<'_, R>, plan: &Plan, batch: Batch) {
+    for stream in batch.streams.as_slice() {
+        for point in stream.points.as_slice() {
+            page.tell((batch.instrument, &point.value));
+        }
+    }
+    let batches = [batch];
+    for name in ["de", "fr", "it"] {
+        page.tell(value_of(plan, &batches, "Orders", &[country(name)]));
+    }
+    page.tell(value_of(plan, &batches, "orders", &[]))
+}
+
+fn tell_counted<R: Abort + Wait>(page: &mut Page<'_, R>, provider: &MeterProvider, seat: Counted) {
+    let mut seat = seat;
+    sell(page, provider, &mut seat);
+    tell_refused(page, &seat);
+    page.tell((seat.untried(0), seat.untried(1)));
+    for refused in seat.refusals(page.alloc).or_fail(page.rt).as_slice() {
+        page.tell(refused);
+    }
+    page.tell(seat.into_seat().accepted(0))
+}
+
+fn tell_twice<R: Abort + Wait>(page: &mut Page<'_, R>, provider: &MeterProvider, seat: Counted) {
+    let mut seat = counted(page.rt, page.alloc, provider.plan(), seat);
+    sell(page, provider, &mut seat);
+    tell_refused(page, &seat);
+    tell_refused(page, seat.seat())
+}
+
+fn tell_recordings<R: Abort + Wait>(
+    page: &mut Page<'_, R>,
+    provider: &MeterProvider,
+    seat: Counted,
+) {
+    let mut seat = seat;
+    for (instrument, name, value) in RECORDED {
+        let _ = seat.record(page.rt, provider, *instrument, &[country(name)], *value);
+    }
+    tell_refused(page, &seat);
+    page.tell(seat.into_seat().accepted(0))
+}
+
+fn tell_sale<R: Abort + Wait>(page: &mut Page<'_, R>, by: &By) {
+    let mut service = shop(page.rt, page.alloc);
+    let seat = service.take(page.rt, "till");
+    if matches!(by, By::Recorder) {
+        return tell_recorder(page, &mut service, seat);
+    }
     let provider = &service.provider;
-    let taken = take_recorder(provider.plan(), &mut service.recorders, "till");
-    let seat = taken.expect(&rt, "no till");
-    let Ok(mut counted) = Counted::new(rt.alloc(), provider.plan(), seat) else {
-        panic!(rt; "no memory");
-    };
-    for (instrument, name, value) in COUNTED {
-        let _ = counted.record(&rt, provider, *instrument, &[country(name)], *value);
+    let seat = counted(page.rt, page.alloc, provider.plan(), seat);
+    match by {
+        By::Twice => tell_twice(page, provider, seat),
+        By::Recordings => tell_recordings(page, provider, seat),
+        _ => tell_counted(page, provider, seat),
     }
-    for (instrument, refusal, times) in REFUSED {
-        assert_equal(&rt, counted.refused(*instrument, *refusal), *times);
+}
+
+#[test]
+fn handles_record_with_each_seat(rt: HostRuntime) {
+    for (by, wanted) in SALES {
+        let mut page = Page::new(&rt, rt.alloc());
+        tell_sale(&mut page, by);
+        page.assert(wanted.concat(rt.alloc()).or_fail(&rt).as_str());
     }
-    let told = counted.into_seat().accepted(0).map(|told| told.count);
-    assert_equal(&rt, told, Some(1));
 }

@@ -1,9 +1,11 @@
 //! Tests of a service from its two files to its totals.
 use crate::asserted::{OrFail, assert_equal};
+use crate::ends::end;
+use crate::page::Page;
+use crate::services::{Seats, Service};
 use metric_sdk::{
-    Catalogue, Collector, Config, CutSink, EndFault, Marked, MeterProvider, NoGate, Recorder, Runs,
-    SetupFault, TextExporter, Totals, make, now, open, open_certified, open_with_lanes,
-    shutdown_all,
+    Catalogue, Config, CutSink, Runs, SetupFault, TextExporter, make, now, open, open_certified,
+    open_with_lanes,
 };
 use std::alloc::Global;
 use std::process::Abort;
@@ -47,47 +49,71 @@ name = 'r'
 budget = [{ instrument = 0, amount = 10 }]
 ";
 
-// Catalogues and configs, each with what it comes to.
-const OPENED: &[[&str; 3]] = &[
-    [CATALOGUE, CONFIG, "recorders 0 1, readers 0 1"],
-    ["=", "=", "catalogue 1 NotToml"],
-    [CATALOGUE, "=", "config 1 NotToml"],
-    [HIGH, CONFIG, "make 4 SumHigh"],
-];
-
-type Seats = (MeterProvider, Vec<Recorder>, Vec<Collector>);
-
-type Opened = Result<Seats, SetupFault>;
-
-// Writes the numbers of the seats that serve the run, or the fault.
-fn write_opened<R: Abort>(out: &mut String, rt: &R, opened: &Opened) {
-    match opened {
-        Ok((provider, recorders, collectors)) => {
-            write!(out, "recorders").or_fail(rt);
-            for seat in recorders {
-                if seat.admits(provider, 0, &[], 0).is_ok() {
-                    write!(out, " {}", seat.number()).or_fail(rt);
-                }
-            }
-            write!(out, ", readers").or_fail(rt);
-            for seat in collectors {
-                write!(out, " {}", seat.number()).or_fail(rt);
-            }
-        }
-        Err(fault) => write!(out, "{fault}").or_fail(rt),
-    }
+// By what a service is opened: with so many lanes, by the certificate that is made for the first two texts, or by a
+// text that is none.
+enum By {
+    Lanes(u32),
+    Certificate,
+    NoCertificate,
 }
 
-#[test]
-fn two_texts_are_opened(rt: HostRuntime) {
-    let mut runs = Runs::new();
-    for [catalogue, config, wanted] in OPENED {
-        for lanes in [1, 2] {
-            let opened = open_with_lanes(&rt, rt.alloc(), catalogue, config, lanes, 5, &mut runs);
-            let mut told = String::new(rt.alloc());
-            write_opened(&mut told, &rt, &opened);
-            assert_equal(&rt, told.as_str(), wanted);
+// The seats that serve a run of the first two texts.
+const SEATS: &str = "recorder 0
+recorder 1
+reader 0
+reader 1
+";
+
+// Catalogues and configs, by what they are opened, and what they come to.
+const OPENED: &[(&str, &str, By, &str)] = &[
+    (CATALOGUE, CONFIG, By::Lanes(1), SEATS),
+    (CATALOGUE, CONFIG, By::Lanes(2), SEATS),
+    ("=", "=", By::Lanes(1), "catalogue 1 NotToml\n"),
+    ("=", "=", By::Lanes(2), "catalogue 1 NotToml\n"),
+    (CATALOGUE, "=", By::Lanes(1), "config 1 NotToml\n"),
+    (CATALOGUE, "=", By::Lanes(2), "config 1 NotToml\n"),
+    (HIGH, CONFIG, By::Lanes(1), "make 4 SumHigh\n"),
+    (HIGH, CONFIG, By::Lanes(2), "make 4 SumHigh\n"),
+    (CATALOGUE, CONFIG, By::Certificate, SEATS),
+    ("=", CONFIG, By::Certificate, "catalogue 1 NotToml\n"),
+    (CATALOGUE, "=", By::Certificate, "config 1 NotToml\n"),
+    (HIGH, CONFIG, By::Certificate, "check 6 StreamStrange\n"),
+    (
+        CATALOGUE,
+        CONFIG,
+        By::NoCertificate,
+        "certificate 1 NotToml\n",
+    ),
+];
+
+fn opened<R: Wait>(
+    rt: &R,
+    alloc: Global,
+    (catalogue, config, by, _): &(&str, &str, By, &str),
+    certificate: &str,
+    runs: &mut Runs,
+) -> Result<Seats, SetupFault> {
+    let certificate = match by {
+        By::Lanes(lanes) => {
+            return open_with_lanes(rt, alloc, catalogue, config, *lanes, 5, runs);
         }
+        By::Certificate => certificate,
+        By::NoCertificate => "=",
+    };
+    open_certified(rt, alloc, catalogue, config, certificate, 5, runs)
+}
+
+// Writes the numbers of the seats that serve the run.
+fn tell_seats<R: Abort>(page: &mut Page<'_, R>, service: &Service) {
+    for seat in &service.recorders {
+        if seat.admits(&service.provider, 0, &[], 0).is_ok() {
+            page.push("recorder ");
+            page.tell(seat.number());
+        }
+    }
+    for seat in &service.readers {
+        page.push("reader ");
+        page.tell(seat.number());
     }
 }
 
@@ -101,36 +127,18 @@ fn certificate_for<R: Abort>(rt: &R, alloc: Global, catalogue: &str, config: &st
         .or_fail(rt)
 }
 
-// Catalogues and configs, each with what it comes to by the certificate for the first two texts.
-const VOUCHED: &[[&str; 3]] = &[
-    [CATALOGUE, CONFIG, "recorders 0 1, readers 0 1"],
-    ["=", CONFIG, "catalogue 1 NotToml"],
-    [CATALOGUE, "=", "config 1 NotToml"],
-    [HIGH, CONFIG, "check 6 StreamStrange"],
-];
-
 #[test]
-fn a_certificate_is_checked(rt: HostRuntime) {
+fn two_texts_are_opened(rt: HostRuntime) {
     let mut runs = Runs::new();
-    let text = certificate_for(&rt, rt.alloc(), CATALOGUE, CONFIG);
-    for [catalogue, config, wanted] in VOUCHED {
-        let opened = open_certified(
-            &rt,
-            rt.alloc(),
-            catalogue,
-            config,
-            text.as_str(),
-            5,
-            &mut runs,
-        );
-        let mut told = String::new(rt.alloc());
-        write_opened(&mut told, &rt, &opened);
-        assert_equal(&rt, told.as_str(), wanted);
+    let certificate = certificate_for(&rt, rt.alloc(), CATALOGUE, CONFIG);
+    for case in OPENED {
+        let mut page = Page::new(&rt, rt.alloc());
+        match opened(&rt, rt.alloc(), case, certificate.as_str(), &mut runs) {
+            Ok(seats) => tell_seats(&mut page, &Service::of(seats)),
+            Err(fault) => page.say(fault),
+        }
+        page.assert(case.3);
     }
-    let opened = open_certified(&rt, rt.alloc(), CATALOGUE, CONFIG, "=", 5, &mut runs);
-    let mut told = String::new(rt.alloc());
-    write_opened(&mut told, &rt, &opened);
-    assert_equal(&rt, told.as_str(), "certificate 1 NotToml");
 }
 
 #[test]
@@ -143,216 +151,94 @@ fn runs_are_counted(rt: HostRuntime) {
     assert!(rt; moment > 1_599_000_000_000_000_000);
 }
 
-// A service: a provider and its seats.
-#[derive(Drop)]
-struct Service {
-    provider: MeterProvider,
-    recorders: Vec<Recorder>,
-    collectors: Vec<Collector>,
+// What happens to a service.
+enum Step {
+    // Each recorder records 3 on the instrument of its number, for which it has a budget.
+    Record,
+    // It goes over into a run of this number at 100.
+    RollOver(u64),
+    // So many seats of recorders are kept.
+    Keep(usize),
 }
 
-// The same by a certificate that somebody else made.
-fn certified<R: Abort + Wait>(rt: &R, alloc: Global) -> Service {
-    let text = certificate_for(rt, alloc, CATALOGUE, CONFIG);
-    let certificate = text.as_str();
-    let mut runs = Runs::new();
-    let opened = open_certified(rt, alloc, CATALOGUE, CONFIG, certificate, 5, &mut runs);
-    service_of(opened.or_fail(rt))
-}
-
-fn service_of((provider, recorders, collectors): Seats) -> Service {
-    Service {
-        provider,
-        recorders,
-        collectors,
-    }
-}
-
-fn opened<R: Abort + Wait>(rt: &R, alloc: Global) -> Service {
-    let opened = open(rt, alloc, CATALOGUE, CONFIG, 5, &mut Runs::new());
-    service_of(opened.or_fail(rt))
-}
-
-// Records on each instrument by the recorder that has a budget for it, so often, and writes the answers.
-fn write_recordings<R: Abort + Wait>(
-    out: &mut String,
-    rt: &R,
-    provider: &MeterProvider,
-    recorders: &mut [Recorder],
-    times: usize,
-) {
-    for _ in 0..times {
-        for seat in recorders.iter_mut() {
-            match seat.record(rt, provider, seat.number(), &[], 3) {
-                Ok(()) => out.push_str("ok\n").or_fail(rt),
-                Err(refusal) => writeln!(out, "{refusal}").or_fail(rt),
-            }
-        }
-    }
-}
-
-fn write_totals<R: Abort>(out: &mut String, rt: &R, totals: &Totals) {
-    for total in &totals.instruments {
-        writeln!(out, "{} recordings, sum {}", total.count, total.sum).or_fail(rt);
-    }
-}
-
-// Goes over into another run, and writes the totals of this one, or why it goes on.
-fn rolled<R: Abort + Wait>(
-    out: &mut String,
-    rt: &R,
-    alloc: Global,
-    service: Service,
-    run: u64,
-) -> Service {
-    let Service {
-        provider,
-        recorders,
-        collectors,
-    } = service;
-    match provider.roll_over(rt, alloc, recorders, 100, run) {
-        Ok(rolled) => {
-            write_totals(out, rt, &rolled.totals);
-            Service {
-                provider: rolled.provider,
-                recorders: rolled.recorders,
-                collectors: rolled.collectors,
-            }
-        }
-        Err((provider, recorders, fault)) => {
-            writeln!(out, "{fault}, {} seats", recorders.len()).or_fail(rt);
-            Service {
-                provider,
-                recorders,
-                collectors,
-            }
-        }
-    }
-}
-
-// Ends a service with an exporter of texts over a sink, and writes what is told and what the sink holds.
-fn write_end<R: Abort + Wait>(
-    out: &mut String,
-    rt: &R,
-    alloc: Global,
-    service: Service,
-    sink: CutSink,
-) {
-    let mut exporter = TextExporter::new(sink);
-    let Service {
-        provider,
-        recorders,
-        collectors,
-    } = service;
-    match shutdown_all(
-        rt,
-        alloc,
-        provider,
-        recorders,
-        collectors,
-        &mut exporter,
-        200,
-    ) {
-        Ok(totals) => write_totals(out, rt, &totals),
-        Err(left) => write_left(out, rt, &left),
-    }
-    let text = std::str::from_utf8(exporter.sink().taken()).or_fail(rt);
-    out.push_str(text).or_fail(rt)
-}
-
-// Writes what is left of a service, and its totals where it is finished.
-fn write_left<R: Abort>(out: &mut String, rt: &R, left: &EndFault<Marked, NoGate>) {
-    writeln!(out, "{left}").or_fail(rt);
-    match &left.finished {
-        Ok(totals) => write_totals(out, rt, totals),
-        Err(unfinished) => writeln!(out, "{} seats", unfinished.recorders.len()).or_fail(rt),
-    }
-}
-
-const ROLLED: &str = "ok
-ok
-ok
-ok
-9 Budget
-9 Budget
-the next run has the number of this one, 2 seats
-2 recordings, sum 6
-2 recordings, sum 6
-ok
-ok
-1 recordings, sum 3
-1 recordings, sum 3
-collected 200 1
-stream reader=\"C\" meter=\"m\" version=\"\" schema=\"\" name=\"A\" unit=\"\" description=\"\" kind=sum monotonic=yes temporality=cumulative
-point {} start=100 time=200 value=3
-collected 200 1
-stream reader=\"C\" meter=\"m\" version=\"\" schema=\"\" name=\"B\" unit=\"\" description=\"\" kind=sum monotonic=yes temporality=cumulative
-point {} start=100 time=200 value=3
-collected 200 1
-stream reader=\"D\" meter=\"m\" version=\"\" schema=\"\" name=\"A\" unit=\"\" description=\"\" kind=sum monotonic=yes temporality=delta
-point {} start=100 time=200 value=3
-collected 200 1
-stream reader=\"D\" meter=\"m\" version=\"\" schema=\"\" name=\"B\" unit=\"\" description=\"\" kind=sum monotonic=yes temporality=delta
-point {} start=100 time=200 value=3
-";
-
-#[test]
-fn a_service_goes_over_into_its_next_run(rt: HostRuntime) {
-    let mut told = String::new(rt.alloc());
-    let mut first = opened(&rt, rt.alloc());
-    write_recordings(
-        &mut told,
-        &rt,
-        &first.provider,
-        first.recorders.as_mut_slice(),
-        3,
-    );
-    let first = rolled(&mut told, &rt, rt.alloc(), first, 1);
-    let mut next = rolled(&mut told, &rt, rt.alloc(), first, 2);
-    write_recordings(
-        &mut told,
-        &rt,
-        &next.provider,
-        next.recorders.as_mut_slice(),
-        1,
-    );
-    write_end(
-        &mut told,
-        &rt,
-        rt.alloc(),
-        next,
-        CutSink::new(rt.alloc(), None),
-    );
-    assert_equal(&rt, told.as_str(), ROLLED);
-}
-
-// How many of the two recorders' seats are kept, how much room the sink of the exporter has, whose flushes fail, and
-// what is told.
-struct End {
-    kept: usize,
+// Whether a service is opened by a certificate that somebody else made, what happens to it, how much room the sink of
+// its last exporter has and whether flushes work, and what is told: the answers, the totals or what is left, what the
+// exporter answers to what is handed back and to a retry, and what the sink holds.
+struct Case {
+    is_certified: bool,
+    steps: &'static [Step],
     room: Option<usize>,
+    flushes: bool,
     told: &'static str,
 }
 
-const ENDS: &[End] = &[
-    End {
-        kept: 2,
-        room: Some(0),
-        told: "ok
-ok
-finished; reader 0, 2 batches not exported: 1 Write; reader 1, 2 batches not exported: 1 Write; not flushed: 1 Write
-1 recordings, sum 3
-1 recordings, sum 3
+const CASES: &[Case] = &[
+    // A service goes over into its next run.
+    Case {
+        is_certified: false,
+        steps: &[
+            Step::Record,
+            Step::Record,
+            Step::Record,
+            Step::RollOver(1),
+            Step::RollOver(2),
+            Step::Record,
+        ],
+        room: None,
+        flushes: true,
+        told: "done
+done
+done
+done
+9 Budget
+9 Budget
+the next run has the number of this one
+2
+[Total { count: 2, sum: 6 }, Total { count: 2, sum: 6 }]
+done
+done
+[Total { count: 1, sum: 3 }, Total { count: 1, sum: 3 }]
+collected 200 1
+stream reader=\"C\" meter=\"m\" version=\"\" schema=\"\" name=\"A\" unit=\"\" description=\"\" kind=sum monotonic=yes temporality=cumulative
+point {} start=100 time=200 value=3
+collected 200 1
+stream reader=\"C\" meter=\"m\" version=\"\" schema=\"\" name=\"B\" unit=\"\" description=\"\" kind=sum monotonic=yes temporality=cumulative
+point {} start=100 time=200 value=3
+collected 200 1
+stream reader=\"D\" meter=\"m\" version=\"\" schema=\"\" name=\"A\" unit=\"\" description=\"\" kind=sum monotonic=yes temporality=delta
+point {} start=100 time=200 value=3
+collected 200 1
+stream reader=\"D\" meter=\"m\" version=\"\" schema=\"\" name=\"B\" unit=\"\" description=\"\" kind=sum monotonic=yes temporality=delta
+point {} start=100 time=200 value=3
 ",
     },
-    End {
-        kept: 2,
+    // An end tells each cause.
+    Case {
+        is_certified: true,
+        steps: &[Step::Record],
+        room: Some(0),
+        flushes: false,
+        told: "done
+done
+finished; reader 0, 2 batches not exported: 1 Write; reader 1, 2 batches not exported: 1 Write; not flushed: 1 Write
+[Total { count: 1, sum: 3 }, Total { count: 1, sum: 3 }]
+1 Write
+1 Write
+1 Write
+1 Write
+done
+",
+    },
+    Case {
+        is_certified: true,
+        steps: &[Step::Record],
         room: None,
-        told: "ok
-ok
+        flushes: false,
+        told: "done
+done
 finished; not flushed: 1 Write
-1 recordings, sum 3
-1 recordings, sum 3
+[Total { count: 1, sum: 3 }, Total { count: 1, sum: 3 }]
+done
 collected 200 1
 stream reader=\"C\" meter=\"m\" version=\"\" schema=\"\" name=\"A\" unit=\"\" description=\"\" kind=sum monotonic=yes temporality=cumulative
 point {} start=5 time=200 value=3
@@ -367,32 +253,91 @@ stream reader=\"D\" meter=\"m\" version=\"\" schema=\"\" name=\"B\" unit=\"\" de
 point {} start=5 time=200 value=3
 ",
     },
-    End {
-        kept: 1,
+    Case {
+        is_certified: true,
+        steps: &[Step::Record, Step::Keep(1)],
         room: Some(0),
-        told: "ok
-ok
+        flushes: false,
+        told: "done
+done
 not finished: 1 RecorderMissing; reader 0, 2 batches not exported: 1 Write; reader 1, 2 batches not exported: 1 Write; not flushed: 1 Write
-1 seats
+1
+1 Write
+1 Write
+1 Write
+1 Write
+done
 ",
     },
 ];
 
+fn begun<R: Abort + Wait>(rt: &R, alloc: Global, is_certified: bool) -> Service {
+    let mut runs = Runs::new();
+    let opened = if is_certified {
+        let certificate = certificate_for(rt, alloc, CATALOGUE, CONFIG);
+        open_certified(
+            rt,
+            alloc,
+            CATALOGUE,
+            CONFIG,
+            certificate.as_str(),
+            5,
+            &mut runs,
+        )
+    } else {
+        open(rt, alloc, CATALOGUE, CONFIG, 5, &mut runs)
+    };
+    Service::of(opened.or_fail(rt))
+}
+
+fn record<R: Abort + Wait>(page: &mut Page<'_, R>, service: &mut Service) {
+    for seat in &mut service.recorders {
+        let answer = seat.record(page.rt, &service.provider, seat.number(), &[], 3);
+        page.answer(answer);
+    }
+}
+
+// Goes over into another run, and writes the totals of this one, or why it goes on.
+fn rolled<R: Abort + Wait>(page: &mut Page<'_, R>, service: Service, run: u64) -> Service {
+    let (provider, recorders, readers) = service.into_seats();
+    match provider.roll_over(page.rt, page.alloc, recorders, 100, run) {
+        Ok(next) => {
+            page.tell(next.totals.instruments.as_slice());
+            Service::of((next.provider, next.recorders, next.collectors))
+        }
+        Err((provider, recorders, fault)) => {
+            page.say(fault);
+            page.tell(recorders.len());
+            Service::of((provider, recorders, readers))
+        }
+    }
+}
+
+fn tell_case<R: Abort + Wait>(page: &mut Page<'_, R>, case: &Case) {
+    let mut service = begun(page.rt, page.alloc, case.is_certified);
+    for step in case.steps {
+        match step {
+            Step::Record => record(page, &mut service),
+            Step::RollOver(run) => service = rolled(page, service, *run),
+            Step::Keep(kept) => service.recorders.truncate(*kept),
+        }
+    }
+    let sink = CutSink::new(page.alloc, case.room);
+    let sink = if case.flushes {
+        sink
+    } else {
+        sink.with_failing_flush()
+    };
+    let mut exporter = TextExporter::new(sink);
+    end(page, service, &mut exporter, 200);
+    page.push(str::from_utf8(exporter.sink().taken()).or_fail(page.rt))
+}
+
 #[test]
-fn an_end_tells_each_cause(rt: HostRuntime) {
-    for end in ENDS {
-        let mut told = String::new(rt.alloc());
-        let mut service = certified(&rt, rt.alloc());
-        write_recordings(
-            &mut told,
-            &rt,
-            &service.provider,
-            service.recorders.as_mut_slice(),
-            1,
-        );
-        service.recorders.truncate(end.kept);
-        let sink = CutSink::new(rt.alloc(), end.room).with_failing_flush();
-        write_end(&mut told, &rt, rt.alloc(), service, sink);
-        assert_equal(&rt, told.as_str(), end.told);
+fn a_service_ends_with_its_totals_or_each_cause(rt: HostRuntime) {
+    for case in CASES {
+        let mut page = Page::new(&rt, rt.alloc());
+        tell_case(&mut page, case);
+        page.assert(case.told);
     }
 }

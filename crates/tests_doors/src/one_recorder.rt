@@ -1,5 +1,6 @@
 //! A test of a run of one recorder, which ends by a caller with a contract of its own.
-use crate::asserted::{OrFail, assert_equal};
+use crate::asserted::OrFail;
+use crate::page::Page;
 use crate::proved_caller::totals_of_one;
 use metric_sdk::{Runs, counter, open};
 
@@ -19,19 +20,16 @@ const CONFIG: &str = "format = 1\n[[reader]]\nname = 'q'\n";
 
 #[test]
 fn a_run_of_one_recorder_comes_to_what_it_was_told(rt: HostRuntime) {
+    let mut page = Page::new(&rt, rt.alloc());
     let opened = open(&rt, rt.alloc(), CATALOGUE, CONFIG, 0, &mut Runs::new());
     let (provider, mut recorders, _readers) = opened.or_fail(&rt);
     let orders = counter(provider.plan(), "m", "c", &[]).or_fail(&rt);
     let mut recorder = recorders.pop().expect(&rt, "no recorder");
     for value in [4, 5] {
-        orders
-            .add(&rt, &provider, &mut recorder, &[], value)
-            .or_fail(&rt);
+        let answer = orders.add(&rt, &provider, &mut recorder, &[], value);
+        answer.or_fail(&rt);
     }
     let totals = totals_of_one(&rt, rt.alloc(), provider, recorder).or_fail(&rt);
-    let mut told = String::new(rt.alloc());
-    for total in &totals.instruments {
-        write!(told, "{} recordings, sum {}", total.count, total.sum).or_fail(&rt);
-    }
-    assert_equal(&rt, told.as_str(), "2 recordings, sum 9");
+    page.tell(totals.instruments.as_slice());
+    page.assert("[Total { count: 2, sum: 9 }]\n");
 }

@@ -1,18 +1,19 @@
 //! Tests of a seat with its provider: recordings, work that is counted and timed, and the room that is left.
-use crate::asserted::{OrFail, assert_equal};
+use crate::asserted::OrFail;
+use crate::page::Page;
+use crate::services::{Service, counted};
 use metric_handles::{
-    AnySeat, BoundUpDownCounter, Counted, TimeUnit, TimedFault, Timer, TimerFault, counter,
-    histogram, up_down_counter,
+    AnySeat, BoundUpDownCounter, Counted, Counter, Timer, TimerFault, counter, histogram,
+    up_down_counter,
 };
 use metric_sdk::{
-    Attr, Marked, MeterProvider, NoGate, Plan, Recorder, Refusal, Replaced, ValueRef,
-    certified_plan, start,
+    Attr, MeterProvider, Plan, Recorder, Refusal, Replaced, ValueRef, certified_plan,
 };
 use std::alloc::Global;
 use std::process::Abort;
 use std::sync::Wait;
 use std::thread::sleep;
-use std::time::Duration;
+use std::time::{Clock, Duration};
 
 const SHOP: &str = "format = 2
 [[meter]]
@@ -77,21 +78,12 @@ range = [0, 9]
 name = 'till'
 ";
 
-// A provider with the seats of its recorders.
-type Seats = (MeterProvider, Vec<Recorder>);
-
-fn open_seats<R: Abort + Wait>(rt: &R, alloc: Global) -> Seats {
-    let plan = certified_plan(alloc, SHOP, READERS).or_fail(rt);
-    match start::<_, Marked, NoGate>(rt, alloc, plan, 0, 1, NoGate) {
-        Ok((provider, recorders, _)) => (provider, recorders),
-        Err((_, _, refused)) => Err(refused).or_fail(rt),
-    }
+fn shop<R: Abort + Wait>(rt: &R, alloc: Global) -> Service {
+    Service::new(rt, alloc, SHOP, READERS, 1)
 }
 
-// The seat of the recorder of a number, of those that are there.
-fn take_seat<R: Abort>(rt: &R, seats: &mut Vec<Recorder>, number: usize) -> Recorder {
-    seats.truncate(number.saturating_add(1));
-    seats.pop().expect(rt, "no such seat")
+fn orders_of<R: Abort>(rt: &R, plan: &Plan) -> Counter {
+    counter(plan, "shop", "orders", &["country"]).or_fail(rt)
 }
 
 // What a seat does: it adds to orders of a country, or is granted so many on an instrument.
@@ -101,66 +93,87 @@ enum Step {
     Look,
 }
 
-// Steps, each with its answer and with what is then left to the recorder and of the spare, of orders.
-const STEPS: &[(Step, &str)] = &[
-    (Step::Look, "done, room 3, spare 10"),
-    (Step::Add("de", 5), "done, room 2, spare 10"),
-    (Step::Add("uk", 5), "5 UnknownValue, room 2, spare 10"),
-    (Step::Grant(0, 4), "done, room 6, spare 6"),
-    (Step::Add("fr", 1), "done, room 5, spare 6"),
-    (Step::Add("fr", 1), "done, room 4, spare 6"),
-    (Step::Add("fr", 1), "done, room 3, spare 6"),
-    (Step::Grant(0, 7), "14 NoSpare, room 3, spare 6"),
-    (Step::Grant(0, 6), "done, room 9, spare 0"),
+const STEPS: &[Step] = &[
+    Step::Look,
+    Step::Add("de", 5),
+    Step::Add("uk", 5),
+    Step::Grant(0, 4),
+    Step::Add("fr", 1),
+    Step::Add("fr", 1),
+    Step::Add("fr", 1),
+    Step::Grant(0, 7),
+    Step::Grant(0, 6),
 ];
 
-#[test]
-fn what_is_left_counts_grants(rt: HostRuntime) {
-    let alloc = rt.alloc();
-    let (provider, mut seats) = open_seats(&rt, alloc);
-    let orders = counter(provider.plan(), "shop", "orders", &["country"]).or_fail(&rt);
-    let mut seat = take_seat(&rt, &mut seats, 0);
-    for (step, wanted) in STEPS {
-        let answer = match step {
-            Step::Add(country, value) => {
-                let mut at = seat.at(&rt, &provider);
-                at.add(&orders, &[Attr::text("country", country)], *value)
-            }
-            Step::Grant(instrument, amount) => seat.ask(&rt, &provider, *instrument, *amount),
-            Step::Look => Ok(()),
-        };
-        let mut told = String::new(alloc);
-        match answer {
-            Ok(()) => write!(told, "done").or_fail(&rt),
-            Err(refusal) => write!(told, "{refusal}").or_fail(&rt),
+// The answer to each step, and what is then left to the recorder and of the spare, of orders. Then what is left of an
+// instrument that there is not, and to the recorder of another provider, as both tell it.
+const LEFT: &str = "done
+[Ok(3), Ok(10)]
+done
+[Ok(2), Ok(10)]
+5 UnknownValue
+[Ok(2), Ok(10)]
+done
+[Ok(6), Ok(6)]
+done
+[Ok(5), Ok(6)]
+done
+[Ok(4), Ok(6)]
+done
+[Ok(3), Ok(6)]
+14 NoSpare
+[Ok(3), Ok(6)]
+done
+[Ok(9), Ok(0)]
+[Err(UnknownInstrument), Err(UnknownInstrument)]
+[Ok(3), Ok(3)]
+";
+
+fn tell_step<R: Abort + Wait>(
+    page: &mut Page<'_, R>,
+    provider: &MeterProvider,
+    orders: &Counter,
+    seat: &mut Recorder,
+    step: &Step,
+) {
+    let answer = match step {
+        Step::Add(country, value) => {
+            let mut at = seat.at(page.rt, provider);
+            at.add(orders, &[Attr::text("country", country)], *value)
         }
-        let room = seat.room(&rt, &provider, orders.number()).or_fail(&rt);
-        let spare = provider.spare_left(&rt, orders.number()).or_fail(&rt);
-        write!(told, ", room {room}, spare {spare}").or_fail(&rt);
-        assert_equal(&rt, told.as_str(), wanted);
-    }
+        Step::Grant(instrument, amount) => seat.ask(page.rt, provider, *instrument, *amount),
+        Step::Look => Ok(()),
+    };
+    page.answer(answer);
+    tell_left(page, provider, seat, orders.number())
+}
+
+// Writes what is left to a recorder and of the spare.
+fn tell_left<R: Abort + Wait>(
+    page: &mut Page<'_, R>,
+    provider: &MeterProvider,
+    seat: &Recorder,
+    instrument: u32,
+) {
+    let room = seat.room(page.rt, provider, instrument);
+    page.tell([room, provider.spare_left(page.rt, instrument)])
 }
 
 #[test]
-fn what_a_stranger_has_left_is_its_own(rt: HostRuntime) {
-    let alloc = rt.alloc();
-    let (provider, mut seats) = open_seats(&rt, alloc);
-    let seat = take_seat(&rt, &mut seats, 0);
-    let (other, mut strangers) = open_seats(&rt, alloc);
-    let stranger = take_seat(&rt, &mut strangers, 1);
-    let told = [
-        seat.room(&rt, &provider, 9),
-        provider.spare_left(&rt, 9),
-        stranger.room(&rt, &provider, 1),
-        stranger.room(&rt, &other, 1),
-    ];
-    let wanted = [
-        Err(Refusal::UnknownInstrument),
-        Err(Refusal::UnknownInstrument),
-        Ok(3),
-        Ok(3),
-    ];
-    assert_equal(&rt, told, wanted);
+fn what_is_left_counts_grants(rt: HostRuntime) {
+    let mut page = Page::new(&rt, rt.alloc());
+    let mut service = shop(&rt, rt.alloc());
+    let orders = orders_of(&rt, service.provider.plan());
+    let mut seat = service.take(&rt, "till");
+    for step in STEPS {
+        tell_step(&mut page, &service.provider, &orders, &mut seat, step);
+    }
+    tell_left(&mut page, &service.provider, &seat, 9);
+    let mut other = shop(&rt, rt.alloc());
+    let stranger = other.take(&rt, "web");
+    let own = stranger.room(&rt, &other.provider, 1);
+    page.tell([stranger.room(&rt, &service.provider, 1), own]);
+    page.assert(LEFT);
 }
 
 // What is told of work that is counted twice, one within the other.
@@ -180,119 +193,120 @@ fn count_twice<R: Wait>(
 // How many recordings a seat was told of on an instrument, and their sum, where its least value is this.
 fn made<R: Abort>(rt: &R, seat: &Recorder, instrument: u32, lo: i64) -> (u64, i128) {
     let told = seat.accepted(instrument).expect(rt, "no such instrument");
-    let sum = i128::from(told.amount).saturating_add(i128::from(lo).saturating_mul(i128::from(
-        told.count,
-    )));
-    (told.count, sum)
+    let least = i128::from(lo).saturating_mul(i128::from(told.count));
+    (told.count, i128::from(told.amount).saturating_add(least))
 }
 
-// A recorder, an instrument with its number and its least value, how many it is granted before, and what it is told
-// of work that is counted twice; with how many recordings that made and what they come to.
-type Counting = (usize, &'static str, i64, u64, &'static str);
+// An up-down counter with its attributes bound.
+fn bound_of<R: Abort>(rt: &R, plan: &Plan, meter: &str, name: &str) -> BoundUpDownCounter {
+    let active = up_down_counter(plan, meter, name, &[]).or_fail(rt);
+    active.bind(plan, &[]).or_fail(rt)
+}
+
+// A recorder, an instrument with its least value, how many it is granted before, and what it is told of work that is
+// counted twice; with how many recordings that made and what they come to.
+type Counting = (&'static str, &'static str, i64, u64, &'static str);
 
 const COUNTED: &[Counting] = &[
-    (0, "active", -1, 0, "[Ok(()), Ok(())] (4, 0)"),
+    ("till", "active", -1, 0, "[Ok(()), Ok(())]\n(4, 0)\n"),
     // Its budget is 3, and the inner work takes the last of it.
-    (1, "active", -1, 0, "[Err(Budget), Ok(())] (3, 1)"),
-    (1, "active", -1, 1, "[Ok(()), Ok(())] (4, 0)"),
+    ("web", "active", -1, 0, "[Err(Budget), Ok(())]\n(3, 1)\n"),
+    ("web", "active", -1, 1, "[Ok(()), Ok(())]\n(4, 0)\n"),
     (
-        0,
+        "till",
         "rising",
         0,
         0,
-        "[Err(ValueRange), Err(ValueRange)] (0, 0)",
+        "[Err(ValueRange), Err(ValueRange)]\n(0, 0)\n",
     ),
 ];
 
+fn tell_counting<R: Abort + Wait>(
+    page: &mut Page<'_, R>,
+    (recorder, name, lo, granted, _): &Counting,
+) {
+    let mut service = shop(page.rt, page.alloc);
+    let mut seat = service.take(page.rt, recorder);
+    let provider = &service.provider;
+    let active = bound_of(page.rt, provider.plan(), "shop", name);
+    let asked = seat.ask(page.rt, provider, active.number(), *granted);
+    asked.or_fail(page.rt);
+    page.tell(count_twice(page.rt, provider, &mut seat, &active));
+    page.tell(made(page.rt, &seat, active.number(), *lo))
+}
+
 #[test]
 fn a_count_comes_back(rt: HostRuntime) {
-    let alloc = rt.alloc();
-    for (recorder, name, lo, granted, wanted) in COUNTED {
-        let (provider, mut seats) = open_seats(&rt, alloc);
-        let mut seat = take_seat(&rt, &mut seats, *recorder);
-        let active = up_down_counter(provider.plan(), "shop", name, &[]).or_fail(&rt);
-        let bound = active.bind(provider.plan(), &[]).or_fail(&rt);
-        seat.ask(&rt, &provider, active.number(), *granted)
-            .or_fail(&rt);
-        let answers = count_twice(&rt, &provider, &mut seat, &bound);
-        let made = made(&rt, &seat, active.number(), *lo);
-        let told = format!(in alloc; "{answers:?} {made:?}").or_fail(&rt);
-        assert_equal(&rt, told.as_str(), wanted);
+    for counting in COUNTED {
+        let mut page = Page::new(&rt, rt.alloc());
+        tell_counting(&mut page, counting);
+        page.assert(counting.4);
     }
 }
 
-// Bound attributes of another plan.
+// A plan of which nothing is of the shop's.
 fn strange<R: Abort>(rt: &R, alloc: Global) -> Plan {
     certified_plan(alloc, OTHER, READERS).or_fail(rt)
 }
 
-// A seat that counts its refusals.
-fn counted<R: Abort>(rt: &R, alloc: Global, plan: &Plan, seat: Recorder) -> Counted {
-    match Counted::new(alloc, plan, seat) {
-        Ok(seat) => seat,
-        Err((_seat, refused)) => Err(refused).or_fail(rt),
-    }
-}
-
-// An up-down counter with its attributes bound.
-fn bound_of<R: Abort>(rt: &R, plan: &Plan, meter: &str) -> BoundUpDownCounter {
-    let active = up_down_counter(plan, meter, "active", &[]).or_fail(rt);
-    active.bind(plan, &[]).or_fail(rt)
-}
-
 // Counts work that fails: it adds to orders of a country that is not declared.
-fn count_failing<R: Abort + Wait>(rt: &R, provider: &MeterProvider, seat: &mut Counted) {
-    let orders = counter(provider.plan(), "shop", "orders", &["country"]).or_fail(rt);
-    let bound = bound_of(rt, provider.plan(), "shop");
-    let mut at = seat.at(rt, provider);
-    let answers = at.during(&bound, |seat| {
-        let mut at = seat.at(rt, provider);
-        at.add(&orders, &[Attr::text("country", "uk")], 1)?;
-        at.add(&orders, &[Attr::text("country", "de")], 1)
-    });
-    assert_equal(rt, answers, (Err(Refusal::UnknownValue), Ok(())));
-}
-
-// Adds to orders a country and an amount that are not declared, each replaced by one that is.
-fn add_replaced<R: Abort + Wait>(rt: &R, provider: &MeterProvider, seat: &mut Counted) {
-    let orders = counter(provider.plan(), "shop", "orders", &["country"]).or_fail(rt);
-    let mut replaced = Replaced::none();
-    let mut at = seat.at(rt, provider);
-    let uk = Attr::text("country", "uk");
-    let known = at
-        .known_or(&orders, &mut replaced, uk, ValueRef::Text("fr"))
-        .or_fail(rt);
-    let amount = at.clamped(&orders, &mut replaced, 101).or_fail(rt);
-    let added = at.add(&orders, &[known], amount);
-    assert_equal(rt, (added, replaced.values), (Ok(()), 1));
-}
-
-// Counts work on an instrument of another plan: it is done, and not counted.
-fn count_strange<R: Abort + Wait>(
-    rt: &R,
-    alloc: Global,
+fn tell_failing<R: Abort + Wait>(
+    page: &mut Page<'_, R>,
     provider: &MeterProvider,
     seat: &mut Counted,
 ) {
-    let other = strange(rt, alloc);
-    let stranger = bound_of(rt, &other, "other");
-    let answers = seat.at(rt, provider).during(&stranger, |_| 7);
-    assert_equal(rt, answers, (7, Err(Refusal::Stranger)));
+    let rt = page.rt;
+    let orders = orders_of(rt, provider.plan());
+    let bound = bound_of(rt, provider.plan(), "shop", "active");
+    let mut at = seat.at(rt, provider);
+    page.tell(at.during(&bound, |seat| {
+        let mut at = seat.at(rt, provider);
+        at.add(&orders, &[Attr::text("country", "uk")], 1)?;
+        at.add(&orders, &[Attr::text("country", "de")], 1)
+    }))
 }
+
+// Adds to orders a country and an amount that are not declared, each replaced by one that is.
+fn tell_replaced<R: Abort + Wait>(
+    page: &mut Page<'_, R>,
+    provider: &MeterProvider,
+    seat: &mut Counted,
+) {
+    let orders = orders_of(page.rt, provider.plan());
+    let mut replaced = Replaced::none();
+    let mut at = seat.at(page.rt, provider);
+    let uk = Attr::text("country", "uk");
+    let known = at.known_or(&orders, &mut replaced, uk, ValueRef::Text("fr"));
+    let known = known.or_fail(page.rt);
+    let amount = at.clamped(&orders, &mut replaced, 101).or_fail(page.rt);
+    page.tell(at.add(&orders, &[known], amount));
+    page.tell(replaced.values)
+}
+
+// What is told of work that fails, of a recording with replaced values and how many values were, and of work that is
+// counted on an instrument of another plan: it is done, and not counted. Of orders one was refused; active was counted
+// up and down, once.
+const FAILING: &str = "(Err(UnknownValue), Ok(()))
+Ok(())
+1
+(7, Err(Stranger))
+(1, (2, 0))
+";
 
 #[test]
 fn a_count_comes_back_where_work_fails(rt: HostRuntime) {
-    let alloc = rt.alloc();
-    let (provider, mut seats) = open_seats(&rt, alloc);
-    let seat = take_seat(&rt, &mut seats, 0);
-    let mut seat = counted(&rt, alloc, provider.plan(), seat);
-    count_failing(&rt, &provider, &mut seat);
-    add_replaced(&rt, &provider, &mut seat);
-    count_strange(&rt, alloc, &provider, &mut seat);
-    // Of orders one was refused; active was counted up and down, once.
+    let mut page = Page::new(&rt, rt.alloc());
+    let mut service = shop(&rt, rt.alloc());
+    let seat = service.take(&rt, "till");
+    let provider = &service.provider;
+    let mut seat = counted(&rt, rt.alloc(), provider.plan(), seat);
+    tell_failing(&mut page, provider, &mut seat);
+    tell_replaced(&mut page, provider, &mut seat);
+    let stranger = bound_of(&rt, &strange(&rt, rt.alloc()), "other", "active");
+    page.tell(seat.at(&rt, provider).during(&stranger, |_| 7));
     let refused = seat.refused(0, Refusal::UnknownValue);
-    let made = made(&rt, seat.seat(), 1, -1);
-    assert_equal(&rt, (refused, made), (1, (2, 0)));
+    page.tell((refused, made(&rt, seat.seat(), 1, -1)));
+    page.assert(FAILING);
 }
 
 // The timer of a histogram of a plan.
@@ -307,83 +321,107 @@ fn timer_of<R: Abort>(
     took.bind(plan, &[]).or_fail(rt).timer(own)
 }
 
+// Whether a histogram is of the other plan, and whether its timer is, with its meter and its name.
+const TIMERS: &[(bool, bool, &str, &str)] = &[
+    (false, false, "shop", "took"),
+    (true, true, "other", "took"),
+    (false, false, "shop", "size"),
+    (true, false, "other", "took"),
+];
+
+// Their units.
+const UNITS: &str = "Milliseconds
+Seconds
+OtherUnit
+OtherPlan
+";
+
 #[test]
-fn a_duration_is_recorded_in_the_unit_of_its_instrument(rt: HostRuntime) {
-    let alloc = rt.alloc();
-    let (provider, mut seats) = open_seats(&rt, alloc);
-    let (plan, other) = (provider.plan(), strange(&rt, alloc));
-    let units = [
-        timer_of(&rt, plan, plan, "shop", "took").map(|timer| timer.unit()),
-        timer_of(&rt, &other, &other, "other", "took").map(|timer| timer.unit()),
-        timer_of(&rt, plan, plan, "shop", "size").map(|timer| timer.unit()),
-        timer_of(&rt, &other, plan, "other", "took").map(|timer| timer.unit()),
-    ];
-    let wanted = [
-        Ok(TimeUnit::Milliseconds),
-        Ok(TimeUnit::Seconds),
-        Err(TimerFault::OtherUnit),
-        Err(TimerFault::OtherPlan),
-    ];
-    assert_equal(&rt, units, wanted);
-    let timer = timer_of(&rt, plan, plan, "shop", "took").or_fail(&rt);
-    let mut seat = take_seat(&rt, &mut seats, 0);
-    let mut at = seat.at(&rt, &provider);
-    let refused = Err(TimedFault::Refused(Refusal::Budget));
-    for wanted in [Ok(()), Ok(()), refused] {
-        let (done, told) = at.timed(&timer, |_| 7);
-        assert_equal(&rt, (done, told), (7, wanted));
+fn a_timer_has_the_unit_of_its_instrument(rt: HostRuntime) {
+    let mut page = Page::new(&rt, rt.alloc());
+    let plan = certified_plan(rt.alloc(), SHOP, READERS).or_fail(&rt);
+    let other = strange(&rt, rt.alloc());
+    for (is_other, is_others, meter, name) in TIMERS {
+        let of = if *is_other { &other } else { &plan };
+        let own = if *is_others { &other } else { &plan };
+        match timer_of(&rt, of, own, meter, name) {
+            Ok(timer) => page.tell(timer.unit()),
+            Err(fault) => page.tell(fault),
+        }
     }
-    let (count, sum) = made(&rt, at.seat(), timer.took().number(), 0);
-    assert_equal(&rt, (count, sum < 60_000), (2, true));
+    page.assert(UNITS);
+}
+
+// What work gives that sleeps so many milliseconds, and what is told of it; how many durations were recorded then, and
+// whether they come to no less than the first work's milliseconds, and to less than a minute's.
+const SLEEPS: &[(u64, &str)] = &[
+    (5, "(7, Ok(()))\n(1, true, true)\n"),
+    (0, "(7, Ok(()))\n(2, true, true)\n"),
+    (0, "(7, Err(Refused(Budget)))\n(2, true, true)\n"),
+];
+
+fn tell_timed<R: Abort + Clock + Wait>(
+    page: &mut Page<'_, R>,
+    provider: &MeterProvider,
+    seat: &mut Recorder,
+    timer: &Timer,
+    sleeps: u64,
+) {
+    let rt = page.rt;
+    let mut at = seat.at(rt, provider);
+    page.tell(at.timed(timer, |_| {
+        sleep(rt, Duration::from_millis(sleeps));
+        7
+    }));
+    let (count, sum) = made(rt, at.seat(), timer.took().number(), 0);
+    page.tell((count, sum >= 5, sum < 60_000))
 }
 
 #[test]
 fn a_duration_is_no_shorter_than_its_work(rt: HostRuntime) {
-    let alloc = rt.alloc();
-    let (provider, mut seats) = open_seats(&rt, alloc);
-    let plan = provider.plan();
+    let mut service = shop(&rt, rt.alloc());
+    let mut seat = service.take(&rt, "till");
+    let plan = service.provider.plan();
     let timer = timer_of(&rt, plan, plan, "shop", "took").or_fail(&rt);
-    let mut seat = take_seat(&rt, &mut seats, 0);
-    let mut at = seat.at(&rt, &provider);
-    let ((), told) = at.timed(&timer, |_| sleep(&rt, Duration::from_millis(5)));
-    let (count, sum) = made(&rt, at.seat(), timer.took().number(), 0);
-    assert_equal(&rt, (told, count, sum >= 5), (Ok(()), 1, true));
+    for (sleeps, wanted) in SLEEPS {
+        let mut page = Page::new(&rt, rt.alloc());
+        tell_timed(&mut page, &service.provider, &mut seat, &timer, *sleeps);
+        page.assert(wanted);
+    }
 }
 
-// How many recordings of orders and of durations a job makes, by the number of its handle, and what it is told.
-type Job = (&'static [(usize, u64)], &'static str);
-
-const JOBS: &[Job] = &[
-    (&[], "Ok(())"),
-    (&[(0, 1), (1, 1)], "Ok(())"),
-    (&[(0, 3), (1, 2)], "Ok(())"),
+// How many recordings of orders and of durations a job makes, by the number of its handle.
+const JOBS: &[&[(usize, u64)]] = &[
+    &[],
+    &[(0, 1), (1, 1)],
+    &[(0, 3), (1, 2)],
     // Of two needs of one instrument the sum is asked for.
-    (
-        &[(1, 1), (0, 2), (0, 2)],
-        "Err(SetsFault { place: 1, refusal: Budget })",
-    ),
-    (
-        &[(0, 1), (1, 3)],
-        "Err(SetsFault { place: 1, refusal: Budget })",
-    ),
-    (
-        &[(0, 1), (2, 1), (1, 3)],
-        "Err(SetsFault { place: 1, refusal: Stranger })",
-    ),
+    &[(1, 1), (0, 2), (0, 2)],
+    &[(0, 1), (1, 3)],
+    &[(0, 1), (2, 1), (1, 3)],
 ];
+
+// What it is told: there is room for all of it, or none.
+const ROOM: &str = "Ok(())
+Ok(())
+Ok(())
+Err(SetsFault { place: 1, refusal: Budget })
+Err(SetsFault { place: 1, refusal: Budget })
+Err(SetsFault { place: 1, refusal: Stranger })
+";
 
 #[test]
 fn a_job_has_room_for_all_of_it_or_none(rt: HostRuntime) {
-    let alloc = rt.alloc();
-    let (provider, mut seats) = open_seats(&rt, alloc);
-    let (plan, other) = (provider.plan(), strange(&rt, alloc));
-    let orders = counter(plan, "shop", "orders", &["country"]).or_fail(&rt);
+    let mut page = Page::new(&rt, rt.alloc());
+    let mut service = shop(&rt, rt.alloc());
+    let mut seat = service.take(&rt, "till");
+    let (plan, other) = (service.provider.plan(), strange(&rt, rt.alloc()));
+    let orders = orders_of(&rt, plan);
     let took = histogram(plan, "shop", "took", &[]).or_fail(&rt);
     let strange = histogram(&other, "other", "took", &[]).or_fail(&rt);
-    let mut seat = take_seat(&rt, &mut seats, 0);
-    let at = seat.at(&rt, &provider);
-    for (job, wanted) in JOBS {
-        let mut needs = Vec::new(alloc);
+    let at = seat.at(&rt, &service.provider);
+    for job in JOBS {
+        let mut needs = Vec::new(rt.alloc());
         for (handle, count) in *job {
             let need = match handle {
                 0 => orders.need(*count),
@@ -392,8 +430,7 @@ fn a_job_has_room_for_all_of_it_or_none(rt: HostRuntime) {
             };
             needs.push(need).or_fail(&rt);
         }
-        let answer = at.has_room(needs.as_slice());
-        let told = format!(in alloc; "{answer:?}").or_fail(&rt);
-        assert_equal(&rt, told.as_str(), wanted);
+        page.tell(at.has_room(needs.as_slice()));
     }
+    page.assert(ROOM);
 }
