@@ -1,11 +1,11 @@
 //! The answers of seats in one thread beside the replies of a core.
-use crate::asserted::{OrFail, assert_equal};
+use crate::asserted::OrFail;
+use crate::page::Page;
 use crate::samples::{BOTH, CODES, HITS, MAIN, PAIRS, SPARED};
 use crate::seats::{BookSeats, seats_in_lanes};
-use crate::texts::write_reply;
 use metric_audit::Audited;
 use metric_core::Core;
-use metric_history::{Book, Event, Reply};
+use metric_history::Book;
 use metric_journal::JournalBook;
 use metric_marked::Marked;
 use metric_parts::{Needs, parts_of};
@@ -33,51 +33,34 @@ fn script_in<R: Abort>(rt: &R, alloc: Global, lines: &[&[u8]]) -> ScriptEvents {
     events_of(alloc, script).or_fail(rt)
 }
 
-fn write_replies<R: Abort>(out: &mut String, rt: &R, replies: &[Reply]) {
-    for reply in replies {
-        write_reply(out, rt, reply);
-    }
-}
-
-fn write_run<R: Abort, B: Book>(
-    out: &mut String,
-    rt: &R,
-    alloc: Global,
-    core: &mut Core<B>,
-    events: &[Event],
-) {
-    let replies = core.run(alloc, events).or_fail(rt);
-    write_replies(out, rt, &replies);
-}
-
 /// Writes a line for the reply of a core to each event.
-pub(crate) fn write_core<R: Abort, B: Book>(
-    out: &mut String,
-    rt: &R,
-    alloc: Global,
+pub(crate) fn tell_core<R: Abort, B: Book>(
+    page: &mut Page<'_, R>,
     catalogue: &str,
     config: &str,
     script: &ScriptEvents,
 ) {
-    let plan = certified_plan(alloc, catalogue, config).or_fail(rt);
-    match Core::<B>::new(alloc, plan, script.start) {
-        Ok(mut core) => write_run(out, rt, alloc, &mut core, script.events.as_slice()),
-        Err(_) => panic!(rt; "memory"),
+    let plan = certified_plan(page.alloc, catalogue, config).or_fail(page.rt);
+    let Ok(mut core) = Core::<B>::new(page.alloc, plan, script.start) else {
+        panic!(page.rt; "memory");
+    };
+    let replies = core.run(page.alloc, script.events.as_slice());
+    for reply in &replies.or_fail(page.rt) {
+        page.reply(reply);
     }
 }
 
 /// Writes a line for the answer of a seat or the provider to each event, where an instrument has so many lanes at most.
-pub(crate) fn write_seats<R: Abort + Wait, B: Book>(
-    out: &mut String,
-    rt: &R,
-    alloc: Global,
+pub(crate) fn tell_seats<R: Abort + Wait, B: Book>(
+    page: &mut Page<'_, R>,
     catalogue: &str,
     config: &str,
     script: &ScriptEvents,
     lanes: u32,
 ) {
-    let mut seats: BookSeats<B> = seats_in_lanes(rt, alloc, catalogue, config, script.start, lanes);
-    seats.write_answers(out, rt, alloc, script.events.as_slice());
+    let (rt, alloc, start) = (page.rt, page.alloc, script.start);
+    let mut seats: BookSeats<B> = seats_in_lanes(rt, alloc, catalogue, config, start, lanes);
+    seats.tell_answers(page, script.events.as_slice());
 }
 
 struct Sample {
@@ -315,28 +298,23 @@ done
 ];
 
 // Writes the answers of seats after those of a core.
-fn write_both<R: Abort + Wait, B: Book>(out: &mut String, rt: &R, alloc: Global, sample: &Sample) {
-    let script = script_of(rt, alloc, sample.script);
+fn tell_both<R: Abort + Wait, B: Book>(page: &mut Page<'_, R>, sample: &Sample) {
+    let script = script_of(page.rt, page.alloc, sample.script);
     let (catalogue, config) = (sample.catalogue, sample.config);
-    write_core::<R, B>(out, rt, alloc, catalogue, config, &script);
+    tell_core::<R, B>(page, catalogue, config, &script);
     for lanes in [1, 3] {
-        write_seats::<R, B>(out, rt, alloc, catalogue, config, &script, lanes);
+        tell_seats::<R, B>(page, catalogue, config, &script, lanes);
     }
-}
-
-// The answers of a core and of seats over each book, one after the other.
-fn told<R: Abort + Wait>(rt: &R, alloc: Global, sample: &Sample) -> String {
-    let mut out = String::new(alloc);
-    write_both::<R, JournalBook>(&mut out, rt, alloc, sample);
-    write_both::<R, Marked>(&mut out, rt, alloc, sample);
-    write_both::<R, Audited>(&mut out, rt, alloc, sample);
-    out
 }
 
 #[test]
 fn seats_answer_as_core(rt: HostRuntime) {
     for sample in SAMPLES {
+        let mut page = Page::new(&rt, rt.alloc());
+        tell_both::<_, JournalBook>(&mut page, sample);
+        tell_both::<_, Marked>(&mut page, sample);
+        tell_both::<_, Audited>(&mut page, sample);
         let wanted = sample.answers.repeat(rt.alloc(), 9).or_fail(&rt);
-        assert_equal(&rt, told(&rt, rt.alloc(), sample).as_str(), wanted.as_str());
+        page.assert(wanted.as_str());
     }
 }

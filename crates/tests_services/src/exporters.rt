@@ -1,14 +1,14 @@
 //! Runs of calls on exporters: what each call answers, and what the sink took.
-use crate::asserted::{OrFail, assert_equal};
+use crate::asserted::OrFail;
+use crate::page::Page;
 use crate::samples::FIVE;
-use crate::seats::{Seats, hit_once};
+use crate::seats::hit_once;
 use metric_export::{ExportFault, MetricExporter, TextExporter};
 use metric_history::Batch;
 use metric_io::CutSink;
 use metric_plan::Plan;
-use std::alloc::{AllocError, Global};
+use std::alloc::Global;
 use std::process::Abort;
-use std::sync::Wait;
 
 #[derive(Clone, Copy)]
 enum Call {
@@ -18,7 +18,7 @@ enum Call {
 }
 
 // How much room the sink has and whether flushes work, the calls of an exporter of texts, what it then holds, and what
-// is told: the answers, the exporter's state, and whether it holds that.
+// is told: the answers, and the exporter's state.
 struct Run {
     room: Option<usize>,
     flushes: bool,
@@ -40,28 +40,28 @@ const RUNS: &[Run] = &[
             Call::Flush,
         ],
         held: FIVE,
-        told: "ok ok ok 2 ShutDown 2 ShutDown 2 ShutDown ShutDown true",
+        told: "ok\nok\nok\n2 ShutDown\n2 ShutDown\n2 ShutDown\nShutDown\n",
     },
     Run {
         room: Some(20),
         flushes: true,
         calls: &[Call::Export, Call::Export, Call::Flush],
         held: "collected 10 1\nstrea",
-        told: "1 Write 1 Write 1 Write Broken true",
+        told: "1 Write\n1 Write\n1 Write\nBroken\n",
     },
     Run {
         room: None,
         flushes: false,
         calls: &[Call::Export, Call::Flush, Call::Export],
         held: FIVE,
-        told: "ok 1 Write 1 Write Broken true",
+        told: "ok\n1 Write\n1 Write\nBroken\n",
     },
     Run {
         room: Some(0),
         flushes: false,
         calls: &[Call::ShutDown, Call::Export],
         held: "",
-        told: "1 Write 2 ShutDown ShutDown true",
+        told: "1 Write\n2 ShutDown\nShutDown\n",
     },
 ];
 
@@ -73,29 +73,21 @@ const FAULTS: &[ExportFault] = &[
     ExportFault::Kept,
 ];
 
-fn write_answer(out: &mut String, answer: Result<(), ExportFault>) -> Result<(), AllocError> {
-    match answer {
-        Ok(()) => out.push_str("ok "),
-        Err(fault) => write!(out, "{fault} "),
-    }
-}
-
-fn write_answers<R: Abort, E: MetricExporter>(
-    out: &mut String,
-    rt: &R,
-    alloc: Global,
+fn tell_call<R: Abort, E: MetricExporter>(
+    page: &mut Page<'_, R>,
     exporter: &mut E,
     plan: &Plan,
     batch: &Batch,
-    calls: &[Call],
+    call: Call,
 ) {
-    for call in calls {
-        let answer = match call {
-            Call::Export => exporter.export(alloc, plan, batch),
-            Call::Flush => exporter.force_flush(),
-            Call::ShutDown => exporter.shutdown(),
-        };
-        write_answer(out, answer).or_fail(rt);
+    let answer = match call {
+        Call::Export => exporter.export(page.alloc, plan, batch),
+        Call::Flush => exporter.force_flush(),
+        Call::ShutDown => exporter.shutdown(),
+    };
+    match answer {
+        Ok(()) => page.push("ok\n"),
+        Err(fault) => page.say(fault),
     }
 }
 
@@ -109,65 +101,38 @@ pub(crate) fn sink_of(alloc: Global, room: Option<usize>, flushes: bool) -> CutS
     }
 }
 
-// Writes the state of an exporter, and whether its sink holds this text.
-fn write_held(
-    out: &mut String,
-    exporter: TextExporter<CutSink>,
-    held: &str,
-) -> Result<(), AllocError> {
-    let state = exporter.state();
+// Writes what an exporter of texts answers to calls, its state, and what its sink holds.
+fn tell_run<R: Abort>(page: &mut Page<'_, R>, plan: &Plan, batch: &Batch, run: &Run) {
+    let mut exporter = TextExporter::new(sink_of(page.alloc, run.room, run.flushes));
+    for call in run.calls {
+        tell_call(page, &mut exporter, plan, batch, *call);
+    }
+    page.tell(exporter.state());
     let sink = exporter.into_inner();
-    let is_held = sink.taken() == held.as_bytes();
-    write!(out, "{state:?} {is_held}")
-}
-
-fn write_run<R: Abort>(
-    out: &mut String,
-    rt: &R,
-    alloc: Global,
-    plan: &Plan,
-    batch: &Batch,
-    run: &Run,
-) {
-    let mut exporter = TextExporter::new(sink_of(alloc, run.room, run.flushes));
-    write_answers(out, rt, alloc, &mut exporter, plan, batch, run.calls);
-    write_held(out, exporter, run.held).or_fail(rt);
-}
-
-// Writes a run on the batch of the delta reader.
-fn write_collected<R: Abort + Wait>(
-    out: &mut String,
-    rt: &R,
-    alloc: Global,
-    seats: &mut Seats,
-    run: &Run,
-) {
-    let (provider, readers) = (&seats.provider, &mut seats.collectors);
-    let reader = readers.last_mut().expect(rt, "no reader");
-    let batch = reader.collect(rt, alloc, provider, 0, 10).or_fail(rt);
-    write_run(out, rt, alloc, provider.plan(), &batch, run);
-}
-
-// The same, after a recording of 5.
-fn write_hit<R: Abort + Wait>(out: &mut String, rt: &R, alloc: Global, run: &Run) {
-    let mut seats = hit_once(rt, alloc, 1);
-    write_collected(out, rt, alloc, &mut seats, run);
+    page.push(str::from_utf8(sink.taken()).or_fail(page.rt))
 }
 
 #[test]
 fn texts_are_exported(rt: HostRuntime) {
+    let mut seats = hit_once(&rt, rt.alloc(), 1);
+    let (provider, readers) = (&seats.provider, &mut seats.collectors);
+    let reader = readers.last_mut().expect(&rt, "no reader");
+    let batch = reader
+        .collect(&rt, rt.alloc(), provider, 0, 10)
+        .or_fail(&rt);
     for run in RUNS {
-        let mut told = String::new(rt.alloc());
-        write_hit(&mut told, &rt, rt.alloc(), run);
-        assert_equal(&rt, told.as_str(), run.told);
+        let mut page = Page::new(&rt, rt.alloc());
+        tell_run(&mut page, provider.plan(), &batch, run);
+        let wanted = [run.told, run.held].concat(rt.alloc());
+        page.assert(wanted.or_fail(&rt).as_str());
     }
 }
 
 #[test]
 fn faults_are_printed(rt: HostRuntime) {
-    let mut printed = String::new(rt.alloc());
+    let mut page = Page::new(&rt, rt.alloc());
     for fault in FAULTS {
-        write_answer(&mut printed, Err(*fault)).or_fail(&rt);
+        page.say(*fault);
     }
-    assert_equal(&rt, printed.as_str(), "1 Write 2 ShutDown 3 Memory 4 Kept ");
+    page.assert("1 Write\n2 ShutDown\n3 Memory\n4 Kept\n");
 }

@@ -1,6 +1,7 @@
 //! Scripts that numbers put together of lines, answered by the seats over each book as by a core.
-use crate::agreement::{script_of, write_core, write_seats};
+use crate::agreement::{script_of, tell_core, tell_seats};
 use crate::asserted::{OrFail, assert_equal};
+use crate::page::Page;
 use crate::samples::BOTH;
 use metric_audit::Audited;
 use metric_history::Book;
@@ -85,34 +86,31 @@ fn is_answered<R: Abort + Wait, B: Book>(
     script: &ScriptEvents,
     wanted: &str,
 ) -> [bool; 3] {
-    let mut core = String::new(alloc);
-    write_core::<R, B>(&mut core, rt, alloc, SHARED, BOTH, script);
-    let mut seats = String::new(alloc);
-    write_seats::<R, B>(&mut seats, rt, alloc, SHARED, BOTH, script, 1);
-    let mut lanes = String::new(alloc);
-    write_seats::<R, B>(&mut lanes, rt, alloc, SHARED, BOTH, script, 2);
+    let mut core = Page::new(rt, alloc);
+    tell_core::<R, B>(&mut core, SHARED, BOTH, script);
+    let mut seats = Page::new(rt, alloc);
+    tell_seats::<R, B>(&mut seats, SHARED, BOTH, script, 1);
+    let mut lanes = Page::new(rt, alloc);
+    tell_seats::<R, B>(&mut lanes, SHARED, BOTH, script, 2);
     [
-        core.as_str() == wanted,
-        seats.as_str() == wanted,
-        lanes.as_str() == wanted,
+        core.text() == wanted,
+        seats.text() == wanted,
+        lanes.text() == wanted,
     ]
 }
 
 // Whether each book answers a script as the plain one does.
-fn agreement<R: Abort + Wait>(
-    seen: &mut String,
-    rt: &R,
-    alloc: Global,
-    number: u64,
-) -> [[bool; 3]; 3] {
+fn agreement<R: Abort + Wait>(seen: &mut Page<'_, R>, number: u64) -> [[bool; 3]; 3] {
+    let (rt, alloc) = (seen.rt, seen.alloc);
     let script = script_of(rt, alloc, &input_of(rt, alloc, number));
-    let mut wanted = String::new(alloc);
-    write_core::<R, JournalBook>(&mut wanted, rt, alloc, SHARED, BOTH, &script);
-    seen.push_str(&wanted).or_fail(rt);
+    let mut plain = Page::new(rt, alloc);
+    tell_core::<R, JournalBook>(&mut plain, SHARED, BOTH, &script);
+    let wanted = plain.text();
+    seen.push(wanted);
     [
-        is_answered::<R, JournalBook>(rt, alloc, &script, &wanted),
-        is_answered::<R, Marked>(rt, alloc, &script, &wanted),
-        is_answered::<R, Audited>(rt, alloc, &script, &wanted),
+        is_answered::<R, JournalBook>(rt, alloc, &script, wanted),
+        is_answered::<R, Marked>(rt, alloc, &script, wanted),
+        is_answered::<R, Audited>(rt, alloc, &script, wanted),
     ]
 }
 
@@ -127,10 +125,10 @@ fn first_unseen(seen: &str) -> Option<&'static str> {
 
 #[test]
 fn seats_answer_scripts_as_core(rt: HostRuntime) {
-    let mut seen = String::new(rt.alloc());
+    let mut seen = Page::new(&rt, rt.alloc());
     for number in 1..=SCRIPTS {
-        let found = agreement(&mut seen, &rt, rt.alloc(), number);
+        let found = agreement(&mut seen, number);
         assert_equal(&rt, (number, found), (number, [[true, true, true]; 3]));
     }
-    assert_equal(&rt, first_unseen(&seen), None);
+    assert_equal(&rt, first_unseen(seen.text()), None);
 }

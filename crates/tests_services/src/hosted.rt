@@ -1,14 +1,13 @@
 //! Instruments that a host keeps behind locks of its own, and their seats.
 ghost use Rattle.std.specs.Prelude.{IsTrue};
 
-use crate::asserted::{OrFail, assert_equal};
+use crate::asserted::OrFail;
+use crate::page::Page;
 use crate::samples::{MAIN, ROUTES};
-use crate::texts::{write_batch, write_refusal, write_reply};
-use metric_contents::{Attr, Refusal, SetKey};
-use metric_history::Reply;
+use metric_contents::{Attr, SetKey};
 use metric_hosted::{Hosted, Measurement, ReaderSeat, RecorderSeat};
 use metric_plan::Plan;
-use metric_sdk::{ValueRef, certified_plan};
+use metric_sdk::certified_plan;
 use std::alloc::Global;
 use std::process::Abort;
 
@@ -71,7 +70,7 @@ done
 8 Closed
 8 Closed
 8 Closed
-4 come to 17
+Total { count: 4, sum: 17 }
 ",
     },
     // Seats of another run.
@@ -121,13 +120,6 @@ fn key_of(entry: u16) -> SetKey {
     [entry, 0, 0, 0, 0, 0, 0, 0]
 }
 
-fn reply_of(answer: Result<(), Refusal>, done: Reply) -> Reply {
-    match answer {
-        Ok(()) => done,
-        Err(refusal) => Reply::Refused(refusal),
-    }
-}
-
 fn prepared<R: Abort>(rt: &R, alloc: Global, list: &[(u16, i64)]) -> Vec<Measurement> {
     let mut all = Vec::new(alloc);
     for (entry, value) in list {
@@ -140,99 +132,66 @@ fn prepared<R: Abort>(rt: &R, alloc: Global, list: &[(u16, i64)]) -> Vec<Measure
     all
 }
 
-fn write_list<R: Abort>(
-    out: &mut String,
-    rt: &R,
-    alloc: Global,
-    held: &mut Held<'_>,
-    list: &[(u16, i64)],
-) {
-    let all = prepared(rt, alloc, list);
-    let answer = held
-        .instrument
-        .record_sets(held.plan, &mut held.recorder, all.as_slice());
-    match answer {
-        Ok(()) => out.push_str("made\n").or_fail(rt),
+fn tell_list<R: Abort>(page: &mut Page<'_, R>, held: &mut Held<'_>, list: &[(u16, i64)]) {
+    let all = prepared(page.rt, page.alloc, list);
+    let seat = &mut held.recorder;
+    match held.instrument.record_sets(held.plan, seat, all.as_slice()) {
+        Ok(()) => page.push("made\n"),
         Err(ended) => {
-            write!(out, "{} made, then ", ended.place).or_fail(rt);
-            write_refusal(out, rt, ended.refusal)
+            page.put(ended.place);
+            page.push(" made, then ");
+            page.say(ended.refusal)
         }
     }
 }
 
-fn write_collected<R: Abort>(
-    out: &mut String,
-    rt: &R,
-    alloc: Global,
-    held: &mut Held<'_>,
-    now: u64,
-) {
-    let answer = held
-        .instrument
-        .collect(alloc, held.plan, &mut held.reader, now);
-    match answer {
-        Ok(batch) => write_batch(out, rt, &batch),
-        Err(refusal) => write_refusal(out, rt, refusal),
-    }
-}
-
-fn write_settled<R: Abort>(out: &mut String, rt: &R, held: &Held<'_>) {
+fn tell_settled<R: Abort>(page: &mut Page<'_, R>, held: &Held<'_>) {
     let Ok(told) = held.instrument.told_of(held.plan, &held.recorder) else {
-        return out.push_str("a stranger's\n").or_fail(rt);
+        return page.push("a stranger's\n");
     };
     match held.instrument.settle(&[told]) {
-        Ok(total) => writeln!(out, "{} come to {}", total.count, total.sum).or_fail(rt),
-        Err(fault) => writeln!(out, "{fault}").or_fail(rt),
+        Ok(total) => page.tell(total),
+        Err(fault) => page.say(fault),
     }
 }
 
-fn write_step<R: Abort>(out: &mut String, rt: &R, alloc: Global, held: &mut Held<'_>, step: &Step) {
+fn tell_step<R: Abort>(page: &mut Page<'_, R>, held: &mut Held<'_>, step: &Step) {
+    let (plan, seat, instrument) = (held.plan, &mut held.recorder, &mut held.instrument);
     match step {
         Step::Record(route, value) => {
-            let route = Attr {
-                key: "route",
-                value: ValueRef::Text(route),
-            };
-            let answer = held
-                .instrument
-                .record(held.plan, &mut held.recorder, &[route], *value);
-            write_reply(out, rt, &reply_of(answer, Reply::Accepted))
+            let attrs = [Attr::text("route", route)];
+            page.answered(instrument.record(plan, seat, &attrs, *value), "accepted\n")
         }
         Step::RecordSet(entry, value) => {
-            let set = key_of(*entry);
-            let answer = held
-                .instrument
-                .record_set(held.plan, &mut held.recorder, set, *value);
-            write_reply(out, rt, &reply_of(answer, Reply::Accepted))
+            let answer = instrument.record_set(plan, seat, key_of(*entry), *value);
+            page.answered(answer, "accepted\n")
         }
-        Step::RecordSets(list) => write_list(out, rt, alloc, held, list),
-        Step::Collect(now) => write_collected(out, rt, alloc, held, *now),
+        Step::RecordSets(list) => tell_list(page, held, list),
+        Step::Collect(now) => {
+            let answer = instrument.collect(page.alloc, plan, &mut held.reader, *now);
+            page.collected(answer)
+        }
         Step::Grant(recorder, amount) => {
-            let answer = held.instrument.grant(*recorder, *amount);
-            write_reply(out, rt, &reply_of(answer, Reply::Granted))
+            page.answered(instrument.grant(*recorder, *amount), "granted\n")
         }
-        Step::Close => {
-            let answer = held.instrument.close();
-            write_reply(out, rt, &reply_of(answer, Reply::Done))
-        }
-        Step::Settle => write_settled(out, rt, held),
+        Step::Close => page.answered(instrument.close(), "done\n"),
+        Step::Settle => tell_settled(page, held),
     }
 }
 
-fn told_of<R: Abort>(rt: &R, alloc: Global, case: &Case) -> String {
-    let plan = certified_plan(alloc, ROUTES, MAIN).or_fail(rt);
-    let mut held = held_of(rt, alloc, &plan, case.run);
-    let mut out = String::new(alloc);
+fn tell_case<R: Abort>(page: &mut Page<'_, R>, case: &Case) {
+    let plan = certified_plan(page.alloc, ROUTES, MAIN).or_fail(page.rt);
+    let mut held = held_of(page.rt, page.alloc, &plan, case.run);
     for step in case.steps {
-        write_step(&mut out, rt, alloc, &mut held, step);
+        tell_step(page, &mut held, step);
     }
-    out
 }
 
 #[test]
 fn a_held_instrument_answers_its_seats(rt: HostRuntime) {
     for case in CASES {
-        let told = told_of(&rt, rt.alloc(), case);
-        assert_equal(&rt, told.as_str(), case.told);
+        let mut page = Page::new(&rt, rt.alloc());
+        tell_case(&mut page, case);
+        page.assert(case.told);
     }
 }

@@ -1,9 +1,8 @@
 //! Recordings by set keys.
-use crate::asserted::{OrFail, assert_equal};
+use crate::asserted::OrFail;
+use crate::page::Page;
 use crate::samples::{CODES, MAIN, PAIRS, ROUTES};
 use crate::seats::{Seats, seats_of};
-use crate::texts::{write_batch, write_numbers, write_refusal, write_reply};
-use metric_history::Reply;
 use metric_provider::{Measurement, Recorder};
 use metric_sdk::MeterProvider;
 use std::alloc::Global;
@@ -64,43 +63,33 @@ accepted
 ];
 
 // Writes the answer to each recording of the first recorder.
-fn write_recordings<R: Abort + Wait>(
-    out: &mut String,
-    rt: &R,
+fn tell_recordings<R: Abort + Wait>(
+    page: &mut Page<'_, R>,
     seats: &mut Seats,
     recordings: &[(u32, [u16; 3], i64)],
 ) {
-    let seat = seats.recorders.first_mut().expect(rt, "no recorder");
+    let seat = seats.recorders.first_mut().expect(page.rt, "no recorder");
     for (instrument, [first, second, third], value) in recordings {
         let set = [*first, *second, *third, 0, 0, 0, 0, 0];
-        let reply = match seat.record_set(rt, &seats.provider, *instrument, set, *value) {
-            Ok(()) => Reply::Accepted,
-            Err(refusal) => Reply::Refused(refusal),
-        };
-        write_reply(out, rt, &reply);
+        let answer = seat.record_set(page.rt, &seats.provider, *instrument, set, *value);
+        page.answered(answer, "accepted\n");
     }
 }
 
 // Writes what the first reader is told.
-fn write_collected<R: Abort + Wait>(out: &mut String, rt: &R, alloc: Global, seats: &mut Seats) {
-    let seat = seats.collectors.first_mut().expect(rt, "no reader");
-    let batch = seat.collect(rt, alloc, &seats.provider, 0, 10).or_fail(rt);
-    write_batch(out, rt, &batch);
-}
-
-fn told<R: Abort + Wait>(rt: &R, alloc: Global, case: &KeyCase) -> String {
-    let mut seats: Seats = seats_of(rt, alloc, case.catalogue, MAIN, 0, 1);
-    let mut out = String::new(alloc);
-    write_recordings(&mut out, rt, &mut seats, case.recordings);
-    write_collected(&mut out, rt, alloc, &mut seats);
-    out
+fn tell_collected<R: Abort + Wait>(page: &mut Page<'_, R>, seats: &mut Seats) {
+    let seat = seats.collectors.first_mut().expect(page.rt, "no reader");
+    page.collected(seat.collect(page.rt, page.alloc, &seats.provider, 0, 10))
 }
 
 #[test]
 fn set_keys_are_recorded_or_refused(rt: HostRuntime) {
     for case in KEYS {
-        let told = told(&rt, rt.alloc(), case);
-        assert_equal(&rt, told.as_str(), case.told);
+        let mut page = Page::new(&rt, rt.alloc());
+        let mut seats: Seats = seats_of(&rt, rt.alloc(), case.catalogue, MAIN, 0, 1);
+        tell_recordings(&mut page, &mut seats, case.recordings);
+        tell_collected(&mut page, &mut seats);
+        page.assert(case.told);
     }
 }
 
@@ -117,7 +106,8 @@ const LISTS: &[ListCase] = &[
     ListCase {
         run: 1,
         lists: &[&[(1, 5), (2, 3), (1, 1)]],
-        told: "made, told 3 6
+        told: "Ok(())
+Some(Told { count: 3, amount: 6 })
 0 0, 0 to 3, 0 to 10: stream 0 [1 0] 6 [2 0] 3
 ",
     },
@@ -125,9 +115,12 @@ const LISTS: &[ListCase] = &[
     ListCase {
         run: 1,
         lists: &[&[(1, 5)], &[(2, 3), (1, 2), (2, 9), (1, 1)], &[(1, 1)]],
-        told: "made, told 1 4
-2, told 3 7: 9 Budget
-0, told 3 7: 9 Budget
+        told: "Ok(())
+Some(Told { count: 1, amount: 4 })
+Err(SetsFault { place: 2, refusal: Budget })
+Some(Told { count: 3, amount: 7 })
+Err(SetsFault { place: 0, refusal: Budget })
+Some(Told { count: 3, amount: 7 })
 0 0, 0 to 3, 0 to 10: stream 0 [1 0] 7 [2 0] 3
 ",
     },
@@ -139,9 +132,12 @@ const LISTS: &[ListCase] = &[
             &[(2, 1), (2, 0)],
             &[(1, 2), (1, 9), (3, 1)],
         ],
-        told: "1, told 1 4: 5 UnknownValue
-1, told 2 4: 7 ValueRange
-1, told 3 5: 9 Budget
+        told: "Err(SetsFault { place: 1, refusal: UnknownValue })
+Some(Told { count: 1, amount: 4 })
+Err(SetsFault { place: 1, refusal: ValueRange })
+Some(Told { count: 2, amount: 4 })
+Err(SetsFault { place: 1, refusal: Budget })
+Some(Told { count: 3, amount: 5 })
 0 0, 0 to 3, 0 to 10: stream 0 [1 0] 7 [2 0] 1
 ",
     },
@@ -149,15 +145,18 @@ const LISTS: &[ListCase] = &[
     ListCase {
         run: 1,
         lists: &[&[]],
-        told: "made, told 0 0
+        told: "Ok(())
+Some(Told { count: 0, amount: 0 })
 0 0, 0 to 0, 0 to 10: stream 0
 ",
     },
     ListCase {
         run: 2,
         lists: &[&[], &[(1, 5), (3, 3)]],
-        told: "made, told 0 0
-0, told 0 0: 12 Stranger
+        told: "Ok(())
+Some(Told { count: 0, amount: 0 })
+Err(SetsFault { place: 0, refusal: Stranger })
+Some(Told { count: 0, amount: 0 })
 0 0, 0 to 0, 0 to 10: stream 0
 ",
     },
@@ -173,55 +172,30 @@ fn measurements<R: Abort>(rt: &R, alloc: Global, list: &[(u16, i64)]) -> Vec<Mea
     all
 }
 
-// Writes what the seat was told.
-fn write_told<R: Abort>(out: &mut String, rt: &R, seat: &Recorder) {
-    if let Some(told) = seat.accepted(0) {
-        write_numbers(out, rt, &[(", told ", told.count), (" ", told.amount)]);
-    }
-}
-
-// Writes the answer to each list of recordings.
-fn write_lists<R: Abort + Wait>(
-    out: &mut String,
-    rt: &R,
-    alloc: Global,
+// Writes the answer to each list of recordings, and what the seat was then told.
+fn tell_lists<R: Abort + Wait>(
+    page: &mut Page<'_, R>,
     provider: &MeterProvider,
     seat: &mut Recorder,
     lists: &[&[(u16, i64)]],
 ) {
     for list in lists {
-        let all = measurements(rt, alloc, list);
-        match seat.record_sets(rt, provider, 0, all.as_slice()) {
-            Ok(()) => {
-                out.push_str("made").or_fail(rt);
-                write_told(out, rt, seat);
-                out.push_str("\n").or_fail(rt);
-            }
-            Err(fault) => {
-                write!(out, "{}", fault.place).or_fail(rt);
-                write_told(out, rt, seat);
-                out.push_str(": ").or_fail(rt);
-                write_refusal(out, rt, fault.refusal);
-            }
-        }
+        let all = measurements(page.rt, page.alloc, list);
+        page.tell(seat.record_sets(page.rt, provider, 0, all.as_slice()));
+        page.tell(seat.accepted(0));
     }
 }
 
 // A seat of the provider's run is its own, since both were told of nothing.
-fn told_of_lists<R: Abort + Wait>(rt: &R, alloc: Global, case: &ListCase) -> String {
-    let mut seats: Seats = seats_of(rt, alloc, ROUTES, MAIN, 0, 1);
-    let mut others: Seats = seats_of(rt, alloc, ROUTES, MAIN, 0, case.run);
-    let seat = others.recorders.first_mut().expect(rt, "no recorder");
-    let mut out = String::new(alloc);
-    write_lists(&mut out, rt, alloc, &seats.provider, seat, case.lists);
-    write_collected(&mut out, rt, alloc, &mut seats);
-    out
-}
-
 #[test]
 fn lists_are_recorded_up_to_the_first_refusal(rt: HostRuntime) {
     for case in LISTS {
-        let told = told_of_lists(&rt, rt.alloc(), case);
-        assert_equal(&rt, told.as_str(), case.told);
+        let mut page = Page::new(&rt, rt.alloc());
+        let mut seats: Seats = seats_of(&rt, rt.alloc(), ROUTES, MAIN, 0, 1);
+        let mut others: Seats = seats_of(&rt, rt.alloc(), ROUTES, MAIN, 0, case.run);
+        let seat = others.recorders.first_mut().expect(&rt, "no recorder");
+        tell_lists(&mut page, &seats.provider, seat, case.lists);
+        tell_collected(&mut page, &mut seats);
+        page.assert(case.told);
     }
 }

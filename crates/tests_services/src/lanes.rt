@@ -102,11 +102,7 @@ fn seen<R: Abort + Threads + Wait + Sync>(
     alloc: Global,
     seats: BookSeats<metric_sdk::Marked>,
 ) -> (Option<(i64, i64)>, Option<(i64, i64)>) {
-    let BookSeats {
-        provider,
-        recorders,
-        mut collectors,
-    } = seats;
+    let (provider, recorders, mut collectors) = seats.into_parts();
     let (Some(second), Some(first)) = (collectors.pop(), collectors.pop()) else {
         panic!(rt; "no two readers");
     };

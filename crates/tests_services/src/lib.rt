@@ -15,19 +15,11 @@ mod audited;
 #[cfg(test)]
 mod clocks;
 #[cfg(test)]
-mod counter;
-#[cfg(test)]
-mod crossed;
-#[cfg(test)]
-mod early;
-#[cfg(test)]
 mod exporters;
 #[cfg(test)]
 mod gates;
 #[cfg(test)]
 mod generated;
-#[cfg(test)]
-mod grants;
 #[cfg(test)]
 mod hosted;
 #[cfg(test)]
@@ -35,7 +27,7 @@ mod keys;
 #[cfg(test)]
 mod lanes;
 #[cfg(test)]
-mod partly;
+mod page;
 #[cfg(test)]
 mod periods;
 #[cfg(test)]

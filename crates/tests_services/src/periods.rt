@@ -1,14 +1,13 @@
 //! Runs of a periodic reader: what is exported, and how the run is counted.
-use crate::asserted::{OrFail, assert_equal};
+use crate::asserted::OrFail;
 use crate::exporters::sink_of;
+use crate::page::Page;
 use crate::samples::{BOTH, FIVE, PAIR};
 use crate::seats::{Seats, hit_once, seats_of};
-use crate::texts::write_numbers;
 use metric_export::TextExporter;
-use metric_io::CutSink;
-use metric_periodic::{ListTicker, Periodic, PeriodicEnd, RunningCounts, StopCause, Tick};
+use metric_history::Reply;
+use metric_periodic::{ListTicker, Periodic, RunningCounts, StopCause, Tick};
 use metric_provider::Collector;
-use metric_sdk::MeterProvider;
 use std::alloc::Global;
 use std::process::Abort;
 use std::sync::Wait;
@@ -31,17 +30,20 @@ stream reader=\"D\" meter=\"m\" version=\"\" schema=\"\" name=\"A\" unit=\"\" de
 point {} start=0 time=10 value=3
 ";
 
-// Of which provider the delta reader collects: its own; one of another run, which refuses it at once; or one of two
-// counters that refuses it at the second one.
+/// Of which provider the delta reader collects: its own, after a recording of 5; one of another run, which refuses it
+/// at once; or one of two counters, after a recording of 3 on the first, that refuses it at the second one, of which
+/// its seat has seen a recording.
 #[derive(Clone, Copy)]
-enum Of {
+pub(crate) enum Of {
     Own,
     Elsewhere,
     Half,
 }
 
 // The provider, the ticks, how many turns there are at most, how much room the sink has and whether flushes work, the
-// text that is held of the first batch and that of the rest, and what is told of the end.
+// text that is held of the first batch and that of the rest, and what is told of the end: what was exported, failed,
+// was refused and was not flushed, twice; why the run stopped, if not after its turns; and whether the reader is handed
+// back.
 struct Run {
     of: Of,
     ticks: &'static [Tick],
@@ -60,7 +62,7 @@ const RUNS: &[Run] = &[
         turns: 9,
         room: None,
         flushes: true,
-        told: "exported 3 failed 0 refused 0 unflushed 0 flag false true",
+        told: "[3, 0, 0, 0]\n[3, 0, 0, 0]\n(Some(Flag), false)\n",
         first: FIVE,
         rest: "collected 20 0\ncollected 30 0\n",
     },
@@ -70,7 +72,7 @@ const RUNS: &[Run] = &[
         turns: 2,
         room: None,
         flushes: true,
-        told: "exported 3 failed 0 refused 0 unflushed 0 turns false true",
+        told: "[3, 0, 0, 0]\n[3, 0, 0, 0]\n(None, false)\n",
         first: FIVE,
         rest: "collected 20 0\ncollected 20 0\n",
     },
@@ -80,7 +82,7 @@ const RUNS: &[Run] = &[
         turns: 1,
         room: None,
         flushes: true,
-        told: "exported 2 failed 0 refused 0 unflushed 0 turns false true",
+        told: "[2, 0, 0, 0]\n[2, 0, 0, 0]\n(None, false)\n",
         first: FIVE,
         rest: "collected 10 0\n",
     },
@@ -90,7 +92,7 @@ const RUNS: &[Run] = &[
         turns: 0,
         room: None,
         flushes: true,
-        told: "exported 1 failed 0 refused 0 unflushed 0 turns false true",
+        told: "[1, 0, 0, 0]\n[1, 0, 0, 0]\n(None, false)\n",
         first: AT_START,
         rest: "",
     },
@@ -100,7 +102,7 @@ const RUNS: &[Run] = &[
         turns: 9,
         room: None,
         flushes: false,
-        told: "exported 1 failed 3 refused 0 unflushed 2 flag false true",
+        told: "[1, 3, 0, 2]\n[1, 3, 0, 2]\n(Some(Flag), false)\n",
         first: FIVE,
         rest: "",
     },
@@ -110,7 +112,7 @@ const RUNS: &[Run] = &[
         turns: 9,
         room: Some(20),
         flushes: true,
-        told: "exported 0 failed 4 refused 0 unflushed 2 flag false true",
+        told: "[0, 4, 0, 2]\n[0, 4, 0, 2]\n(Some(Flag), false)\n",
         first: "collected 10 1\nstrea",
         rest: "",
     },
@@ -120,7 +122,7 @@ const RUNS: &[Run] = &[
         turns: 9,
         room: None,
         flushes: true,
-        told: "exported 0 failed 0 refused 3 unflushed 0 flag true true",
+        told: "[0, 0, 3, 0]\n[0, 0, 3, 0]\n(Some(Flag), true)\n",
         first: "",
         rest: "",
     },
@@ -130,7 +132,7 @@ const RUNS: &[Run] = &[
         turns: 9,
         room: None,
         flushes: true,
-        told: "exported 3 failed 0 refused 3 unflushed 0 flag true true",
+        told: "[3, 0, 3, 0]\n[3, 0, 3, 0]\n(Some(Flag), true)\n",
         first: FIRST,
         rest: "collected 20 0\ncollected 30 0\n",
     },
@@ -140,132 +142,76 @@ const RUNS: &[Run] = &[
         turns: 9,
         room: None,
         flushes: true,
-        told: "exported 1 failed 0 refused 0 unflushed 0 clock false true",
+        told: "[1, 0, 0, 0]\n[1, 0, 0, 0]\n(Some(Clock), false)\n",
         first: FIVE,
         rest: "",
     },
 ];
 
-type End = PeriodicEnd<TextExporter<CutSink>>;
+// Two counters with their seats, after a recording of 3 on one of them.
+fn pair_after_hit<R: Abort + Wait>(rt: &R, alloc: Global, instrument: u32) -> Seats {
+    let mut seats: Seats = seats_of(rt, alloc, PAIR, BOTH, 0, 1);
+    match seats.record(rt, 0, instrument, &[], 3) {
+        Reply::Accepted => seats,
+        _ => panic!(rt; "not accepted"),
+    }
+}
 
-// The end of a run, which tells the same counts to other threads.
-fn end_of<R: Abort + Wait>(
-    rt: &R,
-    alloc: Global,
-    provider: &MeterProvider,
-    reader: Collector,
-    run: &Run,
-) -> End {
-    let exporter = TextExporter::new(sink_of(alloc, run.room, run.flushes));
+// The delta reader's seat of these.
+fn taken<R: Abort>(rt: &R, seats: &mut Seats) -> Collector {
+    seats.collectors.pop().expect(rt, "no reader")
+}
+
+/// A provider with its seats, and the delta reader's seat that collects of it.
+pub(crate) fn served<R: Abort + Wait>(rt: &R, alloc: Global, of: Of) -> (Seats, Collector) {
+    let mut own = match of {
+        Of::Half => pair_after_hit(rt, alloc, 1),
+        _ => hit_once(rt, alloc, 1),
+    };
+    let mut reader = taken(rt, &mut own);
+    match of {
+        Of::Own => (own, reader),
+        Of::Elsewhere => (hit_once(rt, alloc, 2), reader),
+        Of::Half => {
+            let seen = reader.collect(rt, alloc, &own.provider, 1, 0);
+            seen.or_fail(rt);
+            (pair_after_hit(rt, alloc, 0), reader)
+        }
+    }
+}
+
+// Writes the counts of a run, as other threads read them and as its end tells them, why the ticker stopped it, whether
+// the reader is handed back, and what the sink holds.
+fn tell_run<R: Abort + Wait>(page: &mut Page<'_, R>, run: &Run) {
+    let (seats, reader) = served(page.rt, page.alloc, run.of);
+    let exporter = TextExporter::new(sink_of(page.alloc, run.room, run.flushes));
     let mut ticker = ListTicker::new(run.ticks);
     let counts = RunningCounts::new();
     let end = Periodic::new(exporter, run.turns).run_counted(
-        rt,
-        alloc,
-        provider,
+        page.rt,
+        page.alloc,
+        &seats.provider,
         reader,
         &mut ticker,
         &counts,
     );
-    assert_equal(
-        rt,
-        [
-            counts.exported(),
-            counts.failed(),
-            counts.refused(),
-            counts.unflushed(),
-        ],
-        [end.exported, end.failed, end.refused, end.unflushed],
-    );
-    end
-}
-
-// The end of a run with the provider of another run.
-fn end_elsewhere<R: Abort + Wait>(rt: &R, alloc: Global, reader: Collector, run: &Run) -> End {
-    let other = hit_once(rt, alloc, 2);
-    end_of(rt, alloc, &other.provider, reader, run)
-}
-
-// Two counters with their seats, after a recording of 3 on one of them.
-fn pair_after_hit<R: Abort + Wait>(rt: &R, alloc: Global, instrument: u32) -> Seats {
-    let mut seats: Seats = seats_of(rt, alloc, PAIR, BOTH, 0, 1);
-    if let Some(recorder) = seats.recorders.first_mut() {
-        recorder
-            .record(rt, &seats.provider, instrument, &[], 3)
-            .or_fail(rt);
-    }
-    seats
-}
-
-// The delta reader's seat of two counters that has seen a recording of the second one.
-fn second_seen<R: Abort + Wait>(rt: &R, alloc: Global) -> Collector {
-    let mut seats = pair_after_hit(rt, alloc, 1);
-    let mut reader = seats.collectors.pop().expect(rt, "no reader");
-    reader.collect(rt, alloc, &seats.provider, 1, 0).or_fail(rt);
-    reader
-}
-
-// The end of a run with a provider of the same number that has no recording of the second counter.
-fn end_of_half<R: Abort + Wait>(rt: &R, alloc: Global, run: &Run) -> End {
-    let reader = second_seen(rt, alloc);
-    let seats = pair_after_hit(rt, alloc, 0);
-    end_of(rt, alloc, &seats.provider, reader, run)
-}
-
-// The end of a run of the delta reader, after a recording of 5.
-fn end_after_hit<R: Abort + Wait>(rt: &R, alloc: Global, run: &Run) -> End {
-    let mut seats = hit_once(rt, alloc, 1);
-    match (run.of, seats.collectors.pop()) {
-        (Of::Half, _) => end_of_half(rt, alloc, run),
-        (_, None) => panic!(rt; "no reader"),
-        (Of::Elsewhere, Some(reader)) => end_elsewhere(rt, alloc, reader, run),
-        (Of::Own, Some(reader)) => end_of(rt, alloc, &seats.provider, reader, run),
-    }
-}
-
-// Why a ticker stopped a run, as a word.
-fn word_of(stopped: Option<StopCause>) -> &'static str {
-    match stopped {
-        None => "turns",
-        Some(StopCause::Flag) => "flag",
-        Some(StopCause::Clock) => "clock",
-        Some(StopCause::Ticks) => "ticks",
-    }
-}
-
-// Writes the counts of an end, why the ticker stopped the run, whether the reader is handed back, and whether these
-// texts are held.
-fn write_end<R: Abort>(out: &mut String, rt: &R, end: &End, run: &Run) {
-    write_numbers(
-        out,
-        rt,
-        &[
-            ("exported ", end.exported),
-            (" failed ", end.failed),
-            (" refused ", end.refused),
-            (" unflushed ", end.unflushed),
-        ],
-    );
-    let (stopped, is_kept) = (word_of(end.stopped), end.kept.is_some());
-    let rest = end
-        .exporter
-        .sink()
-        .taken()
-        .strip_prefix(run.first.as_bytes());
-    let is_held = rest == Some(run.rest.as_bytes());
-    write!(out, " {stopped} {is_kept} {is_held}").or_fail(rt);
-}
-
-fn write_run<R: Abort + Wait>(out: &mut String, rt: &R, alloc: Global, run: &Run) {
-    let end = end_after_hit(rt, alloc, run);
-    write_end(out, rt, &end, run);
+    page.tell([
+        counts.exported(),
+        counts.failed(),
+        counts.refused(),
+        counts.unflushed(),
+    ]);
+    page.tell([end.exported, end.failed, end.refused, end.unflushed]);
+    page.tell((end.stopped, end.kept.is_some()));
+    page.push(str::from_utf8(end.exporter.sink().taken()).or_fail(page.rt))
 }
 
 #[test]
 fn batches_are_exported(rt: HostRuntime) {
     for run in RUNS {
-        let mut told = String::new(rt.alloc());
-        write_run(&mut told, &rt, rt.alloc(), run);
-        assert_equal(&rt, told.as_str(), run.told);
+        let mut page = Page::new(&rt, rt.alloc());
+        tell_run(&mut page, run);
+        let wanted = [run.told, run.first, run.rest].concat(rt.alloc());
+        page.assert(wanted.or_fail(&rt).as_str());
     }
 }

@@ -1,22 +1,61 @@
-//! Runs of two counters with two recorders and two readers, from the first recording to the totals.
+//! Lives of providers with their seats, from the first recording to the totals.
 use crate::agreement::script_of;
-use crate::asserted::{OrFail, assert_equal};
-use crate::samples::{BOTH, PAIR};
-use crate::seats::{Seats, seats_of};
-use crate::texts::write_batches;
-use metric_history::Event;
-use metric_provider::{Collector, Recorder};
-use metric_sdk::MeterProvider;
+use crate::asserted::OrFail;
+use crate::page::Page;
+use crate::samples::{BOTH, HITS, MAIN, PAIR, SPARED};
+use crate::seats::{BookSeats, seated, seats_of};
+use metric_audit::Audited;
+use metric_contents::Refusal;
+use metric_history::Book;
+use metric_marked::Marked;
+use metric_provider::{Collector, NoGate, Partly, Provider, Recorder, Totals};
 use std::alloc::Global;
+use std::fmt::Display;
+use std::mem::replace;
 use std::process::Abort;
 use std::sync::Wait;
 
+// What happens to a provider and its seats.
+#[derive(Clone, Copy)]
+enum Act {
+    // Events, which are the lines of a script.
+    Script(&'static str),
+    // The request of a seat for so many recordings on an instrument.
+    Ask(usize, u32, u64),
+    // What each recorder was told of three instruments, and whether it may record on the second one.
+    Recorders,
+    // What each reader has seen of three instruments, and the same after it collected all at 20.
+    Seen,
+    Readers,
+    // The last reader's last collection, at 30.
+    Last,
+    // The seats of these recorders are kept. Of another provider, of the run of a number if there is one, the seat of a
+    // recorder of this number stands after them.
+    Keep(&'static [u32]),
+    Add(Option<u64>, u32),
+    // The last seat goes.
+    Drop,
+    // The seats of another provider, of the run of a number, are brought after a script, so many; and the own ones are
+    // there again.
+    Bring(u64, &'static str, usize),
+    Back,
+    // The ends: into a run that starts at a time and has a number, for good, and with the seats that are there.
+    RollOver(u64, u64),
+    Finish,
+    FinishPartly,
+}
+
+// The files of a provider, since when it runs, what happens in its run of number 1, and what is told.
+struct Life {
+    catalogue: &'static str,
+    config: &'static str,
+    since: u64,
+    acts: &'static [Act],
+    told: &'static str,
+}
+
 // Both recorders record on both instruments; a third one is there only where a run has a stranger.
-const SCRIPT: &str = "%% catalogue
-%% config
-%% script
-start 0
-record 0 0 1
+const RECORDED: &str = "record 0 0 1
 record 0 1 2
 record 1 0 3
 record 1 1 0
@@ -25,17 +64,53 @@ record 1 0 2
 record 2 0 2
 ";
 
-// How many of the two recorders' seats are kept, whether one of another run stands after them, and what is told.
-struct Run {
-    kept: usize,
-    has_stranger: bool,
-    told: &'static str,
-}
+// Each reader's last batch is of another instrument.
+const COLLECTED: &str = "record 0 0 1
+record 1 1 2
+collect 0 0 10
+collect 1 1 20
+";
 
-const RUNS: &[Run] = &[
-    Run {
-        kept: 2,
-        has_stranger: false,
+const UNCOLLECTED: &str = "record 0 0 1
+record 1 1 2
+";
+
+const AFTER: &str = "record 0 0 2
+record 1 1 1
+collect 0 0 30
+collect 1 1 40
+";
+
+// Two counters, each with a spare of its own. One recorder alone has a budget, and on the first alone.
+const SPARES: &str = "format = 2
+[[meter]]
+name = 'm'
+instrument = [
+    { name = 'c', kind = 'counter', range = [0, 9], spare = 2 },
+    { name = 'd', kind = 'counter', range = [0, 9], spare = 1 },
+]
+[[recorder]]
+name = 'r'
+budget = [{ instrument = 0, amount = 1 }]
+[[recorder]]
+name = 's'
+";
+
+const LIVES: &[Life] = &[
+    // Runs end with the seats of all recorders.
+    Life {
+        catalogue: PAIR,
+        config: BOTH,
+        since: 0,
+        acts: &[
+            Act::Keep(&[0, 1]),
+            Act::Add(None, 1),
+            Act::Script(RECORDED),
+            Act::Recorders,
+            Act::Readers,
+            Act::Last,
+            Act::Finish,
+        ],
         told: "accepted
 accepted
 accepted
@@ -43,22 +118,32 @@ accepted
 1 0, 0 to 2, 0 to 10: stream 2 [0 0] 4
 accepted
 2 UnknownRecorder
-recorder 0 [Some(Told { count: 1, amount: 1 }), Some(Told { count: 1, amount: 2 }), None] Ok([0, 0, 0, 0, 0, 0, 0, 0])
-recorder 1 [Some(Told { count: 2, amount: 5 }), Some(Told { count: 1, amount: 0 }), None] Ok([0, 0, 0, 0, 0, 0, 0, 0])
+(0, [Some(Told { count: 1, amount: 1 }), Some(Told { count: 1, amount: 2 }), None], Ok([0, 0, 0, 0, 0, 0, 0, 0]))
+(1, [Some(Told { count: 2, amount: 5 }), Some(Told { count: 1, amount: 0 }), None], Ok([0, 0, 0, 0, 0, 0, 0, 0]))
 0 0, 0 to 3, 0 to 20: stream 0 [0 0] 6
 0 1, 0 to 2, 0 to 20: stream 1 [0 0] 2
-reader 0 [Some(3), Some(2), None]
+(0, [Some(3), Some(2), None])
 1 0, 2 to 3, 10 to 20: stream 2 [0 0] 2
 1 1, 0 to 2, 0 to 20: stream 3 [0 0] 2
-reader 1 [Some(3), Some(2), None]
+(1, [Some(3), Some(2), None])
 1 0, 3 to 3, 20 to 30: stream 2
 1 1, 2 to 2, 20 to 30: stream 3
-[Total { count: 3, sum: 6 }, Total { count: 2, sum: 2 }], 2 journals, 2 slips
+([Total { count: 3, sum: 6 }, Total { count: 2, sum: 2 }], 2, 2)
 ",
     },
-    Run {
-        kept: 2,
-        has_stranger: true,
+    Life {
+        catalogue: PAIR,
+        config: BOTH,
+        since: 0,
+        acts: &[
+            Act::Keep(&[0, 1]),
+            Act::Add(Some(2), 1),
+            Act::Script(RECORDED),
+            Act::Recorders,
+            Act::Readers,
+            Act::Last,
+            Act::Finish,
+        ],
         told: "accepted
 accepted
 accepted
@@ -66,23 +151,34 @@ accepted
 1 0, 0 to 2, 0 to 10: stream 2 [0 0] 4
 accepted
 12 Stranger
-recorder 0 [Some(Told { count: 1, amount: 1 }), Some(Told { count: 1, amount: 2 }), None] Ok([0, 0, 0, 0, 0, 0, 0, 0])
-recorder 1 [Some(Told { count: 2, amount: 5 }), Some(Told { count: 1, amount: 0 }), None] Ok([0, 0, 0, 0, 0, 0, 0, 0])
-recorder 1 [Some(Told { count: 0, amount: 0 }), Some(Told { count: 0, amount: 0 }), None] Err(Stranger)
+(0, [Some(Told { count: 1, amount: 1 }), Some(Told { count: 1, amount: 2 }), None], Ok([0, 0, 0, 0, 0, 0, 0, 0]))
+(1, [Some(Told { count: 2, amount: 5 }), Some(Told { count: 1, amount: 0 }), None], Ok([0, 0, 0, 0, 0, 0, 0, 0]))
+(1, [Some(Told { count: 0, amount: 0 }), Some(Told { count: 0, amount: 0 }), None], Err(Stranger))
 0 0, 0 to 3, 0 to 20: stream 0 [0 0] 6
 0 1, 0 to 2, 0 to 20: stream 1 [0 0] 2
-reader 0 [Some(3), Some(2), None]
+(0, [Some(3), Some(2), None])
 1 0, 2 to 3, 10 to 20: stream 2 [0 0] 2
 1 1, 0 to 2, 0 to 20: stream 3 [0 0] 2
-reader 1 [Some(3), Some(2), None]
+(1, [Some(3), Some(2), None])
 1 0, 3 to 3, 20 to 30: stream 2
 1 1, 2 to 2, 20 to 30: stream 3
-2 Stranger, 3 seats
+2 Stranger
+3
 ",
     },
-    Run {
-        kept: 1,
-        has_stranger: false,
+    Life {
+        catalogue: PAIR,
+        config: BOTH,
+        since: 0,
+        acts: &[
+            Act::Keep(&[0]),
+            Act::Add(None, 1),
+            Act::Script(RECORDED),
+            Act::Recorders,
+            Act::Readers,
+            Act::Last,
+            Act::Finish,
+        ],
         told: "accepted
 accepted
 2 UnknownRecorder
@@ -90,131 +186,522 @@ accepted
 1 0, 0 to 1, 0 to 10: stream 2 [0 0] 1
 2 UnknownRecorder
 2 UnknownRecorder
-recorder 0 [Some(Told { count: 1, amount: 1 }), Some(Told { count: 1, amount: 2 }), None] Ok([0, 0, 0, 0, 0, 0, 0, 0])
+(0, [Some(Told { count: 1, amount: 1 }), Some(Told { count: 1, amount: 2 }), None], Ok([0, 0, 0, 0, 0, 0, 0, 0]))
 0 0, 0 to 1, 0 to 20: stream 0 [0 0] 1
 0 1, 0 to 1, 0 to 20: stream 1 [0 0] 2
-reader 0 [Some(1), Some(1), None]
+(0, [Some(1), Some(1), None])
 1 0, 1 to 1, 10 to 20: stream 2
 1 1, 0 to 1, 0 to 20: stream 3 [0 0] 2
-reader 1 [Some(1), Some(1), None]
+(1, [Some(1), Some(1), None])
 1 0, 1 to 1, 20 to 30: stream 2
 1 1, 1 to 1, 20 to 30: stream 3
-1 RecorderMissing, 1 seats
+1 RecorderMissing
+1
+",
+    },
+    // A counter comes to its recordings.
+    Life {
+        catalogue: HITS,
+        config: BOTH,
+        since: 0,
+        acts: &[
+            Act::Script("record 0 0 5\ncollect 0 0 10\nclose 0\nrecord 0 0 5\nclose 0\n"),
+            Act::Recorders,
+            Act::Seen,
+            Act::Finish,
+        ],
+        told: "accepted
+0 0, 0 to 1, 0 to 10: stream 0 [0 0] 5
+done
+8 Closed
+8 Closed
+(0, [Some(Told { count: 1, amount: 5 }), None, None], Err(UnknownInstrument))
+(0, [Some(1), None, None])
+(1, [Some(0), None, None])
+([Total { count: 1, sum: 5 }], 1, 1)
+",
+    },
+    // A run starts no earlier than the last batches.
+    Life {
+        catalogue: PAIR,
+        config: BOTH,
+        since: 7,
+        acts: &[
+            Act::Script(COLLECTED),
+            Act::RollOver(19, 2),
+            Act::Script(AFTER),
+            Act::Finish,
+        ],
+        told: "accepted
+accepted
+0 0, 0 to 1, 7 to 10: stream 0 [0 0] 1
+1 1, 0 to 1, 7 to 20: stream 3 [0 0] 2
+the next run starts before 20, the last time of this one
+2
+accepted
+accepted
+0 0, 0 to 2, 7 to 30: stream 0 [0 0] 3
+1 1, 1 to 2, 20 to 40: stream 3 [0 0] 1
+([Total { count: 2, sum: 3 }, Total { count: 2, sum: 3 }], 2, 2)
+",
+    },
+    Life {
+        catalogue: PAIR,
+        config: BOTH,
+        since: 7,
+        acts: &[
+            Act::Script(COLLECTED),
+            Act::RollOver(20, 2),
+            Act::Script(AFTER),
+            Act::Finish,
+        ],
+        told: "accepted
+accepted
+0 0, 0 to 1, 7 to 10: stream 0 [0 0] 1
+1 1, 0 to 1, 7 to 20: stream 3 [0 0] 2
+[Total { count: 1, sum: 1 }, Total { count: 1, sum: 2 }]
+accepted
+accepted
+0 0, 0 to 1, 20 to 30: stream 0 [0 0] 2
+1 1, 0 to 1, 20 to 40: stream 3 [0 0] 1
+([Total { count: 1, sum: 2 }, Total { count: 1, sum: 1 }], 2, 2)
+",
+    },
+    Life {
+        catalogue: PAIR,
+        config: BOTH,
+        since: 7,
+        acts: &[
+            Act::Script(UNCOLLECTED),
+            Act::RollOver(6, 2),
+            Act::Script(AFTER),
+            Act::Finish,
+        ],
+        told: "accepted
+accepted
+the next run starts before 7, the last time of this one
+2
+accepted
+accepted
+0 0, 0 to 2, 7 to 30: stream 0 [0 0] 3
+1 1, 0 to 2, 7 to 40: stream 3 [0 0] 3
+([Total { count: 2, sum: 3 }, Total { count: 2, sum: 3 }], 2, 2)
+",
+    },
+    // What is spared is recorded, beside the budget, by what recorders are granted.
+    Life {
+        catalogue: SPARES,
+        config: MAIN,
+        since: 0,
+        acts: &[
+            Act::Ask(1, 1, 1),
+            Act::Script("record 1 0 7\nrecord 0 1 7\nrecord 1 1 7\nrecord 1 1 7\ngrant 0 1 1\n"),
+            Act::Script("record 0 0 4\nrecord 0 0 5\n"),
+            Act::Ask(0, 0, 3),
+            Act::Ask(0, 0, 1),
+            Act::Script("record 0 0 5\nrecord 0 0 5\ngrant 2 0 1\nrecord 1 0 6\ngrant 1 0 1\n"),
+            Act::Script("record 1 0 6\nrecord 1 0 6\n"),
+            Act::Ask(1, 0, 1),
+            Act::Ask(1, 0, 0),
+            Act::Finish,
+        ],
+        told: "granted
+9 Budget
+9 Budget
+accepted
+9 Budget
+14 NoSpare
+accepted
+9 Budget
+14 NoSpare
+granted
+accepted
+9 Budget
+2 UnknownRecorder
+9 Budget
+granted
+accepted
+9 Budget
+14 NoSpare
+granted
+([Total { count: 3, sum: 15 }, Total { count: 1, sum: 7 }], 2, 2)
+",
+    },
+    // A stranger is granted nothing.
+    Life {
+        catalogue: SPARED,
+        config: MAIN,
+        since: 0,
+        acts: &[Act::Bring(2, "", 2), Act::Ask(0, 0, 0), Act::Ask(1, 0, 0)],
+        told: "12 Stranger
+12 Stranger
 ",
     },
 ];
 
-// The last recorder's seat of another run.
-fn stranger<R: Abort + Wait>(rt: &R, alloc: Global) -> Recorder {
-    let mut other: Seats = seats_of(rt, alloc, PAIR, BOTH, 0, 2);
-    other.recorders.pop().expect(rt, "no seat")
+// Writes the answers to the lines of a script.
+fn tell_script<R: Abort + Wait, B: Book>(
+    page: &mut Page<'_, R>,
+    seats: &mut BookSeats<B>,
+    lines: &str,
+) {
+    let parts = ["%% catalogue\n%% config\n%% script\nstart 0\n", lines];
+    let input = parts.concat(page.alloc).or_fail(page.rt);
+    let script = script_of(page.rt, page.alloc, input.as_str());
+    seats.tell_answers(page, script.events.as_slice())
 }
 
 // Writes what each recorder was told of both instruments and of one that there is not, and what it may record.
-fn write_recorders<R: Abort>(out: &mut String, rt: &R, seats: &Seats) {
+fn tell_recorders<R: Abort, B: Book>(page: &mut Page<'_, R>, seats: &BookSeats<B>) {
     for seat in &seats.recorders {
-        let number = seat.number();
         let told = [seat.accepted(0), seat.accepted(1), seat.accepted(2)];
         let admitted = seat.admits(&seats.provider, 1, &[], 3);
-        writeln!(out, "recorder {number} {told:?} {admitted:?}").or_fail(rt);
+        page.tell((seat.number(), told, admitted));
     }
 }
 
-// Writes a collection of all instruments, and what the reader has then seen of them and of one that there is not.
-fn write_reader<R: Abort + Wait>(
-    out: &mut String,
-    rt: &R,
-    alloc: Global,
-    provider: &MeterProvider,
-    reader: &mut Collector,
+// Writes what each reader has seen, after its collection of all instruments where it makes one.
+fn tell_readers<R: Abort + Wait, B: Book>(
+    page: &mut Page<'_, R>,
+    seats: &mut BookSeats<B>,
+    collects: bool,
 ) {
-    let batches = reader.collect_all(rt, alloc, provider, 20).or_fail(rt);
-    write_batches(out, rt, &batches);
-    let number = reader.number();
-    let seen = [reader.seen(0), reader.seen(1), reader.seen(2)];
-    writeln!(out, "reader {number} {seen:?}").or_fail(rt);
-}
-
-fn write_readers<R: Abort + Wait>(out: &mut String, rt: &R, alloc: Global, seats: &mut Seats) {
-    for reader in seats.collectors.iter_mut() {
-        write_reader(out, rt, alloc, &seats.provider, reader);
-    }
-}
-
-// Writes the last collection of the delta reader.
-fn write_last<R: Abort + Wait>(out: &mut String, rt: &R, alloc: Global, seats: &mut Seats) {
-    let reader = seats.collectors.pop().expect(rt, "no reader");
-    match reader.shutdown(rt, alloc, &seats.provider, 30) {
-        Ok(batches) => write_batches(out, rt, &batches),
-        Err(_) => panic!(rt; "refused"),
-    }
-}
-
-/// Writes what the recordings come to, or why they do not and how many seats are handed back.
-pub(crate) fn write_finish<R: Abort + Wait>(out: &mut String, rt: &R, alloc: Global, seats: Seats) {
-    let Seats {
-        provider,
-        recorders,
-        collectors: _,
-    } = seats;
-    match provider.finish(rt, alloc, recorders) {
-        Ok(totals) => {
-            let instruments = totals.instruments.as_slice();
-            let (journals, slips) = (totals.journals.len(), totals.slips.len());
-            writeln!(out, "{instruments:?}, {journals} journals, {slips} slips").or_fail(rt)
+    for reader in &mut seats.collectors {
+        if collects {
+            let batches = reader.collect_all(page.rt, page.alloc, &seats.provider, 20);
+            for batch in &batches.or_fail(page.rt) {
+                page.batch(batch);
+            }
         }
-        Err((_, recorders, fault)) => {
-            writeln!(out, "{fault}, {} seats", recorders.len()).or_fail(rt)
+        let seen = [reader.seen(0), reader.seen(1), reader.seen(2)];
+        page.tell((reader.number(), seen));
+    }
+}
+
+fn tell_last<R: Abort + Wait, B: Book>(page: &mut Page<'_, R>, seats: &mut BookSeats<B>) {
+    let reader = seats.collectors.pop().expect(page.rt, "no reader");
+    match reader.shutdown(page.rt, page.alloc, &seats.provider, 30) {
+        Ok(batches) => {
+            for batch in &batches {
+                page.batch(batch);
+            }
+        }
+        Err(_) => panic!(page.rt; "refused"),
+    }
+}
+
+fn tell_ask<R: Abort + Wait, B: Book>(
+    page: &mut Page<'_, R>,
+    seats: &BookSeats<B>,
+    (recorder, instrument, amount): (usize, u32, u64),
+) {
+    match seats.recorders.get(recorder) {
+        Some(seat) => {
+            let answer = seat.ask(page.rt, &seats.provider, instrument, amount);
+            page.answered(answer, "granted\n")
+        }
+        None => page.say(Refusal::UnknownRecorder),
+    }
+}
+
+// Keeps the seats of the recorders of these numbers.
+fn keep<R: Abort>(rt: &R, alloc: Global, seats: &mut Vec<Recorder>, numbers: &[u32]) {
+    for seat in replace(seats, Vec::new(alloc)) {
+        if numbers.contains(&seat.number()) {
+            seats.push(seat).or_fail(rt);
         }
     }
 }
 
-// Leaves the seats that the run keeps, and adds the stranger where it has one.
-fn choose_seats<R: Abort + Wait>(rt: &R, alloc: Global, recorders: &mut Vec<Recorder>, run: &Run) {
-    recorders.truncate(run.kept);
-    if run.has_stranger {
-        recorders.push(stranger(rt, alloc)).or_fail(rt);
+// The seat of a recorder of another provider, which has recorded nothing.
+fn stranger<R: Abort + Wait, B: Book>(rt: &R, alloc: Global, run: u64, number: u32) -> Recorder {
+    let mut other: BookSeats<B> = seats_of(rt, alloc, PAIR, BOTH, 0, run);
+    keep(rt, alloc, &mut other.recorders, &[number]);
+    other.recorders.pop().expect(rt, "no seat")
+}
+
+// Brings the seats of another provider of the same files after a script, so many.
+fn bring<R: Abort + Wait, B: Book>(
+    page: &mut Page<'_, R>,
+    own: &mut BookSeats<B>,
+    other: BookSeats<B>,
+    (lines, count): (&str, usize),
+) -> Vec<Recorder> {
+    let mut other = other;
+    tell_script(page, &mut other, lines);
+    let mut brought = replace(&mut other.recorders, Vec::new(page.alloc));
+    brought.truncate(count);
+    replace(&mut own.recorders, brought)
+}
+
+// Does what does not end a provider. The own seats are aside while others are brought.
+fn do_act<R: Abort + Wait, B: Book>(
+    page: &mut Page<'_, R>,
+    files: (&str, &str, u64),
+    seats: &mut BookSeats<B>,
+    aside: &mut Vec<Recorder>,
+    next: &Act,
+) {
+    let (rt, alloc) = (page.rt, page.alloc);
+    match *next {
+        Act::Script(lines) => tell_script(page, seats, lines),
+        Act::Ask(recorder, instrument, amount) => {
+            tell_ask(page, seats, (recorder, instrument, amount))
+        }
+        Act::Recorders => tell_recorders(page, seats),
+        Act::Seen => tell_readers(page, seats, false),
+        Act::Readers => tell_readers(page, seats, true),
+        Act::Last => tell_last(page, seats),
+        Act::Keep(numbers) => keep(rt, alloc, &mut seats.recorders, numbers),
+        Act::Add(Some(run), number) => {
+            let stranger = stranger::<R, B>(rt, alloc, run, number);
+            seats.recorders.push(stranger).or_fail(rt)
+        }
+        Act::Drop => seats
+            .recorders
+            .truncate(seats.recorders.len().saturating_sub(1)),
+        Act::Bring(run, lines, count) => {
+            let (catalogue, config, since) = files;
+            let other = seats_of(rt, alloc, catalogue, config, since, run);
+            *aside = bring(page, seats, other, (lines, count));
+        }
+        Act::Back => seats.recorders = replace(aside, Vec::new(alloc)),
+        _ => {}
     }
 }
 
-// Writes what the seats answer and are told up to the last collection.
-fn write_told<R: Abort + Wait>(
-    out: &mut String,
-    rt: &R,
-    alloc: Global,
-    seats: &mut Seats,
-    events: &[Event],
-) {
-    seats.write_answers(out, rt, alloc, events);
-    write_recorders(out, rt, seats);
-    write_readers(out, rt, alloc, seats);
-    write_last(out, rt, alloc, seats);
+fn tell_totals<R: Abort>(page: &mut Page<'_, R>, totals: &Totals) {
+    let instruments = totals.instruments.as_slice();
+    page.tell((instruments, totals.journals.len(), totals.slips.len()))
 }
 
-fn write_run<R: Abort + Wait>(
-    out: &mut String,
-    rt: &R,
-    alloc: Global,
-    run: &Run,
-    events: &[Event],
-) {
-    let mut seats: Seats = seats_of(rt, alloc, PAIR, BOTH, 0, 1);
-    choose_seats(rt, alloc, &mut seats.recorders, run);
-    write_told(out, rt, alloc, &mut seats, events);
-    write_finish(out, rt, alloc, seats);
+// Writes what is known of a run with the seats that are there, and how long each journal is.
+fn tell_partly<R: Abort>(page: &mut Page<'_, R>, partly: &Partly) {
+    let instruments = partly.totals.instruments.as_slice();
+    page.tell((instruments, partly.missing.as_slice()));
+    for journal in &partly.totals.journals {
+        page.tell(journal.len());
+    }
 }
 
-// Writes a run from its script to its totals.
-fn write_script<R: Abort + Wait>(out: &mut String, rt: &R, alloc: Global, run: &Run) {
-    let script = script_of(rt, alloc, SCRIPT);
-    write_run(out, rt, alloc, run, script.events.as_slice());
+// What an end hands back, and why.
+type Refused<B, F> = (Provider<B, NoGate>, Vec<Recorder>, F);
+
+// Writes why a provider goes on, and how many seats are handed back.
+fn goes_on<R: Abort, B: Book, F: Display + Drop>(
+    page: &mut Page<'_, R>,
+    (provider, recorders, fault): Refused<B, F>,
+    collectors: Vec<Collector>,
+) -> Option<BookSeats<B>> {
+    page.say(fault);
+    page.tell(recorders.len());
+    Some(seated((provider, recorders, collectors)))
+}
+
+// Ends a provider, and hands back what goes on.
+fn end<R: Abort + Wait, B: Book>(
+    page: &mut Page<'_, R>,
+    seats: BookSeats<B>,
+    next: &Act,
+) -> Option<BookSeats<B>> {
+    let (provider, recorders, collectors) = seats.into_parts();
+    match *next {
+        Act::RollOver(start, run) => {
+            match provider.roll_over(page.rt, page.alloc, recorders, start, run) {
+                Ok(rolled) => {
+                    page.tell(rolled.totals.instruments.as_slice());
+                    Some(seated((rolled.provider, rolled.recorders, rolled.collectors)))
+                }
+                Err(refused) => goes_on(page, refused, collectors),
+            }
+        }
+        Act::FinishPartly => match provider.finish_partly(page.rt, page.alloc, recorders) {
+            Ok(partly) => {
+                tell_partly(page, &partly);
+                None
+            }
+            Err(refused) => goes_on(page, refused, collectors),
+        },
+        _ => match provider.finish(page.rt, page.alloc, recorders) {
+            Ok(totals) => {
+                tell_totals(page, &totals);
+                None
+            }
+            Err(refused) => goes_on(page, refused, collectors),
+        },
+    }
+}
+
+fn live<R: Abort + Wait, B: Book>(page: &mut Page<'_, R>, files: (&str, &str, u64), acts: &[Act]) {
+    let (catalogue, config, since) = files;
+    let mut seats: BookSeats<B> = seats_of(page.rt, page.alloc, catalogue, config, since, 1);
+    let mut aside = Vec::new(page.alloc);
+    for next in acts {
+        match next {
+            Act::RollOver(_, _) | Act::Finish | Act::FinishPartly => match end(page, seats, next) {
+                Some(going) => seats = going,
+                None => return,
+            },
+            _ => do_act(page, files, &mut seats, &mut aside, next),
+        }
+    }
 }
 
 #[test]
-fn runs_end_with_the_seats_of_all_recorders(rt: HostRuntime) {
-    for run in RUNS {
-        let mut told = String::new(rt.alloc());
-        write_script(&mut told, &rt, rt.alloc(), run);
-        assert_equal(&rt, told.as_str(), run.told);
+fn providers_live_with_their_seats(rt: HostRuntime) {
+    for life in LIVES {
+        let mut page = Page::new(&rt, rt.alloc());
+        let files = (life.catalogue, life.config, life.since);
+        live::<_, Marked>(&mut page, files, life.acts);
+        page.assert(life.told);
+    }
+}
+
+// Two counters with ranges of their own.
+const UNLIKE: &str = "format = 1
+[[meter]]
+name = 'm'
+instrument = [
+    { name = 'A', kind = 'counter', range = [0, 9] },
+    { name = 'B', kind = 'counter', range = [0, 99] },
+]
+[[recorder]]
+name = 'r'
+budget = [{ instrument = 0, amount = 10 }, { instrument = 1, amount = 10 }]
+";
+
+// Seats that are brought to the end of another provider's run, and why it does not end with them: seats of a run with
+// the same number come with another sum of either counter, or with other numbers of recordings; they are of another
+// run; or there are none.
+const BROUGHT: &[(Act, &str)] = &[
+    (
+        Act::Bring(1, "record 0 0 4\nrecord 0 1 50\n", 1),
+        "3 AuditMismatch\n1\n",
+    ),
+    (
+        Act::Bring(1, "record 0 0 5\nrecord 0 1 49\n", 1),
+        "3 AuditMismatch\n1\n",
+    ),
+    (
+        Act::Bring(1, "record 0 0 5\nrecord 0 0 0\n", 1),
+        "3 AuditMismatch\n1\n",
+    ),
+    (
+        Act::Bring(2, "record 0 0 5\nrecord 0 1 50\n", 1),
+        "2 Stranger\n1\n",
+    ),
+    (
+        Act::Bring(1, "record 0 0 5\nrecord 0 1 50\n", 0),
+        "1 RecorderMissing\n0\n",
+    ),
+];
+
+// What is told before the refusal, and after it.
+const BEFORE: &str = "accepted
+accepted
+0 0, 0 to 1, 7 to 10: stream 0 [0 0] 5
+accepted
+accepted
+";
+
+const THEREAFTER: &str = "accepted
+accepted
+0 1, 0 to 2, 7 to 20: stream 1 [0 0] 80
+([Total { count: 2, sum: 7 }, Total { count: 2, sum: 80 }], 2, 2)
+";
+
+#[test]
+fn a_provider_goes_on_after_the_seats_of_another(rt: HostRuntime) {
+    for (brought, refused) in BROUGHT {
+        for end in [Act::Finish, Act::RollOver(100, 3)] {
+            let acts = [
+                Act::Script("record 0 0 5\nrecord 0 1 50\ncollect 0 0 10\n"),
+                *brought,
+                end,
+                Act::Back,
+                Act::Script("record 0 0 2\nrecord 0 1 30\ncollect 0 1 20\n"),
+                Act::Finish,
+            ];
+            let mut page = Page::new(&rt, rt.alloc());
+            live::<_, Marked>(&mut page, (UNLIKE, MAIN, 7), &acts);
+            let wanted = [BEFORE, *refused, THEREAFTER].concat(rt.alloc());
+            page.assert(wanted.or_fail(&rt).as_str());
+        }
+    }
+}
+
+// The recorders of whom seats are brought, the number of the run of another provider whose first seat comes with them,
+// if one does, and what is told, up to the lengths of the journals. A provider that is not ended ends without the last
+// seat.
+const THERE: &[(&[u32], Option<u64>, &str)] = &[
+    (
+        &[0, 1],
+        None,
+        "([Total { count: 3, sum: 6 }, Total { count: 2, sum: 2 }], [])\n",
+    ),
+    (
+        &[0],
+        None,
+        "([Total { count: 1, sum: 1 }, Total { count: 1, sum: 2 }], [1])\n",
+    ),
+    (
+        &[1],
+        None,
+        "([Total { count: 2, sum: 5 }, Total { count: 1, sum: 0 }], [0])\n",
+    ),
+    (
+        &[],
+        None,
+        "([Total { count: 0, sum: 0 }, Total { count: 0, sum: 0 }], [0, 1])\n",
+    ),
+    (
+        &[1],
+        Some(2),
+        "2 Stranger\n2\n([Total { count: 2, sum: 5 }, Total { count: 1, sum: 0 }], [0])\n",
+    ),
+    (
+        &[1],
+        Some(1),
+        "3 AuditMismatch\n2\n([Total { count: 2, sum: 5 }, Total { count: 1, sum: 0 }], [0])\n",
+    ),
+    (
+        &[0, 1],
+        Some(1),
+        "2 Stranger\n3\n([Total { count: 3, sum: 6 }, Total { count: 2, sum: 2 }], [])\n",
+    ),
+];
+
+// The answers to the recordings before.
+const ACCEPTED: &str = "accepted
+accepted
+accepted
+accepted
+accepted
+";
+
+fn tell_there<R: Abort + Wait, B: Book>(
+    page: &mut Page<'_, R>,
+    seats: &'static [u32],
+    other: Option<u64>,
+) {
+    let acts = [
+        Act::Script("record 0 0 1\nrecord 0 1 2\nrecord 1 0 3\nrecord 1 1 0\nrecord 1 0 2\n"),
+        Act::Keep(seats),
+        Act::Add(other, 0),
+        Act::FinishPartly,
+        Act::Drop,
+        Act::FinishPartly,
+    ];
+    live::<R, B>(page, (PAIR, BOTH, 0), &acts)
+}
+
+#[test]
+fn the_seats_that_are_there_end_a_provider(rt: HostRuntime) {
+    for (seats, other, told) in THERE {
+        let mut page = Page::new(&rt, rt.alloc());
+        tell_there::<_, Marked>(&mut page, seats, *other);
+        tell_there::<_, Audited>(&mut page, seats, *other);
+        let wanted = [ACCEPTED, *told, "0\n0\n", ACCEPTED, *told, "3\n2\n"];
+        page.assert(wanted.concat(rt.alloc()).or_fail(&rt).as_str());
     }
 }

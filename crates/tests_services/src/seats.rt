@@ -1,7 +1,7 @@
 //! A provider with its seats, and what they answer to events.
 use crate::asserted::OrFail;
+use crate::page::Page;
 use crate::samples::{BOTH, HITS};
-use crate::texts::write_reply;
 use metric_contents::{Attr, OwnedAttr, Refusal};
 use metric_history::{Book, Event, Reply};
 use metric_marked::Marked;
@@ -12,11 +12,21 @@ use std::process::Abort;
 use std::sync::Wait;
 
 /// A provider over a book, and the seats of its recorders and readers, in order.
-#[derive(Drop)]
 pub(crate) struct BookSeats<B: Book> {
     pub(crate) provider: Provider<B, NoGate>,
     pub(crate) recorders: Vec<Recorder>,
     pub(crate) collectors: Vec<Collector>,
+}
+
+impl<B: Book> Drop for BookSeats<B> {
+    // A call of its own, so that what owns seats does not carry the steps of dropping each part.
+    fn drop(self) {
+        let BookSeats {
+            provider: _provider,
+            recorders: _recorders,
+            collectors: _collectors,
+        } = self;
+    }
 }
 
 /// The seats of a provider over running tables, as a service has them.
@@ -54,8 +64,11 @@ pub(crate) fn seats_in_lanes<R: Abort + Wait, B: Book>(
     }
 }
 
-fn seated<B: Book>(made: (Provider<B, NoGate>, Vec<Recorder>, Vec<Collector>)) -> BookSeats<B> {
-    let (provider, recorders, collectors) = made;
+/// A provider, and the seats of its recorders and readers, one by one.
+pub(crate) type Parts<B> = (Provider<B, NoGate>, Vec<Recorder>, Vec<Collector>);
+
+/// These seats.
+pub(crate) fn seated<B: Book>((provider, recorders, collectors): Parts<B>) -> BookSeats<B> {
     BookSeats {
         provider,
         recorders,
@@ -85,8 +98,18 @@ fn borrowed<'a, R: Abort>(rt: &R, alloc: Global, owned: &'a [OwnedAttr]) -> Vec<
 }
 
 impl<B: Book> BookSeats<B> {
-    // The answer to a recording. Where there is no such seat, it is that of a core.
-    fn record<R: Wait>(
+    /// The provider, and the seats of its recorders and readers.
+    pub(crate) fn into_parts(self) -> Parts<B> {
+        let BookSeats {
+            provider,
+            recorders,
+            collectors,
+        } = self;
+        (provider, recorders, collectors)
+    }
+
+    /// The answer to a recording. Where there is no such seat, it is that of a core.
+    pub(crate) fn record<R: Wait>(
         &mut self,
         rt: &R,
         recorder: u32,
@@ -167,15 +190,13 @@ impl<B: Book> BookSeats<B> {
     }
 
     /// Writes a line for the answer to each event.
-    pub(crate) fn write_answers<R: Abort + Wait>(
+    pub(crate) fn tell_answers<R: Abort + Wait>(
         &mut self,
-        out: &mut String,
-        rt: &R,
-        alloc: Global,
+        page: &mut Page<'_, R>,
         events: &[Event],
     ) {
         for event in events {
-            write_reply(out, rt, &self.answer(rt, alloc, event));
+            page.reply(&self.answer(page.rt, page.alloc, event));
         }
     }
 }

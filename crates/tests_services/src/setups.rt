@@ -1,8 +1,7 @@
 //! The faults of two texts that no provider starts of.
-use crate::asserted::{OrFail, assert_equal};
+use crate::page::Page;
 use crate::samples::{HITS, MAIN};
 use metric_sdk::certified_plan;
-use std::alloc::{AllocError, Global};
 
 // Ten recordings of the greatest value come to a sum beyond 64 bits.
 const HIGH: &str = "format = 1
@@ -33,23 +32,14 @@ config 2 MissingField at reader 0
 make 4 SumHigh
 ";
 
-fn write_fault(
-    out: &mut String,
-    alloc: Global,
-    catalogue: &str,
-    config: &str,
-) -> Result<(), AllocError> {
-    match certified_plan(alloc, catalogue, config) {
-        Ok(_) => out.push_str("a plan\n"),
-        Err(fault) => writeln!(out, "{fault}"),
-    }
-}
-
 #[test]
 fn a_plan_is_made_of_safe_files_alone(rt: HostRuntime) {
-    let mut told = String::new(rt.alloc());
+    let mut page = Page::new(&rt, rt.alloc());
     for [catalogue, config] in FILES {
-        write_fault(&mut told, rt.alloc(), catalogue, config).or_fail(&rt);
+        match certified_plan(rt.alloc(), catalogue, config) {
+            Ok(_) => page.push("a plan\n"),
+            Err(fault) => page.say(fault),
+        }
     }
-    assert_equal(&rt, told.as_str(), FAULTS);
+    page.assert(FAULTS);
 }

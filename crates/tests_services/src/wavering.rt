@@ -3,15 +3,12 @@ ghost use Rattle.std.specs.Prelude.{◌≡◌, [], None};
 ghost use Rattle.metric_export.specs.States.{GoesOn};
 ghost use Rattle.metric_export.specs.declared.state.ExporterState.TheVariants.{ShutDown};
 
-use crate::asserted::assert_equal;
-use crate::periods::TICKS;
-use crate::seats::hit_once;
+use crate::page::Page;
+use crate::periods::{Of, TICKS, served};
 use metric_export::{ExportFault, ExporterState, MetricExporter, own_plan};
 use metric_history::Batch;
-use metric_periodic::{ListTicker, Periodic, PeriodicEnd};
+use metric_periodic::{ListTicker, Periodic};
 use metric_plan::Plan;
-use metric_provider::Collector;
-use metric_sdk::MeterProvider;
 use std::alloc::Global;
 use std::process::Abort;
 use std::sync::Wait;
@@ -69,48 +66,37 @@ impl MetricExporter for WaveringExporter {
     }
 }
 
-fn end_of<R: Wait>(
-    rt: &R,
-    alloc: Global,
-    provider: &MeterProvider,
-    reader: Collector,
-    fails_at: u64,
-) -> PeriodicEnd<WaveringExporter> {
+// Writes how many batches of a delta reader's run are exported and how many failed, and which were taken, where the
+// export of this number fails.
+fn tell_run<R: Abort + Wait>(page: &mut Page<'_, R>, fails_at: u64) {
+    let (seats, reader) = served(page.rt, page.alloc, Of::Own);
     let exporter = WaveringExporter {
-        taken: Vec::new(alloc),
+        taken: Vec::new(page.alloc),
         number: 0,
         fails_at,
         failures: 0,
         state: ExporterState::Open,
     };
     let mut ticker = ListTicker::new(TICKS);
-    Periodic::new(exporter, 9).run(rt, alloc, provider, reader, &mut ticker)
+    let periodic = Periodic::new(exporter, 9);
+    let end = periodic.run(page.rt, page.alloc, &seats.provider, reader, &mut ticker);
+    page.tell((end.exported, end.failed));
+    page.tell(end.exporter.taken.as_slice())
 }
 
-// The end of a run of the delta reader, after a recording of 5.
-fn end_after_hit<R: Abort + Wait>(
-    rt: &R,
-    alloc: Global,
-    fails_at: u64,
-) -> PeriodicEnd<WaveringExporter> {
-    let mut seats = hit_once(rt, alloc, 1);
-    let reader = seats.collectors.pop().expect(rt, "no reader");
-    end_of(rt, alloc, &seats.provider, reader, fails_at)
-}
-
-// Which export fails, how many are exported and how many failed, and which batches were taken.
-const RUNS: &[(u64, (u64, u64), &[(u64, usize)])] = &[
-    (0, (3, 0), &[(10, 1), (20, 0), (30, 0)]),
-    (1, (2, 1), &[(20, 0), (30, 0)]),
-    (2, (2, 1), &[(10, 1), (30, 0)]),
-    (3, (2, 1), &[(10, 1), (20, 0)]),
+// Which export fails, and what is told.
+const RUNS: &[(u64, &str)] = &[
+    (0, "(3, 0)\n[(10, 1), (20, 0), (30, 0)]\n"),
+    (1, "(2, 1)\n[(20, 0), (30, 0)]\n"),
+    (2, "(2, 1)\n[(10, 1), (30, 0)]\n"),
+    (3, "(2, 1)\n[(10, 1), (20, 0)]\n"),
 ];
 
 #[test]
 fn an_exporter_that_failed_goes_on(rt: HostRuntime) {
-    for (fails_at, counts, taken) in RUNS {
-        let end = end_after_hit(&rt, rt.alloc(), *fails_at);
-        assert_equal(&rt, (end.exported, end.failed), *counts);
-        assert_equal(&rt, end.exporter.taken.as_slice(), *taken);
+    for (fails_at, wanted) in RUNS {
+        let mut page = Page::new(&rt, rt.alloc());
+        tell_run(&mut page, *fails_at);
+        page.assert(wanted);
     }
 }
