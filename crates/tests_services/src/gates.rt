@@ -97,40 +97,10 @@ enum Step {
     Grant,
 }
 
-fn record<R: Wait>(
-    rt: &R,
-    provider: &Held<'_>,
-    seat: Recorder,
-    instrument: u32,
-) -> Result<(), Refusal> {
-    let mut seat = seat;
-    seat.record(rt, provider, instrument, &[], 1)
-}
-
-fn record_list<R: Wait>(rt: &R, provider: &Held<'_>, seat: Recorder) -> Result<(), Refusal> {
-    let mut seat = seat;
-    let one = Measurement {
-        set: [0; 8],
-        value: 1,
-    };
-    match seat.record_sets(rt, provider, 0, &[one, one]) {
-        Ok(()) => Ok(()),
-        Err(fault) => Err(fault.refusal),
-    }
-}
-
-fn collect<R: Wait>(
-    rt: &R,
-    alloc: Global,
-    provider: &Held<'_>,
-    reader: Collector,
-) -> Result<(), Refusal> {
-    let mut reader = reader;
-    match reader.collect(rt, alloc, provider, 0, 10) {
-        Ok(_) => Ok(()),
-        Err(refusal) => Err(refusal),
-    }
-}
+const ONE: Measurement = Measurement {
+    set: [0; 8],
+    value: 1,
+};
 
 // Makes a step on the first instrument.
 fn make_first<R: Wait>(
@@ -140,10 +110,17 @@ fn make_first<R: Wait>(
     (seat, reader): (Recorder, Collector),
     step: Step,
 ) -> Result<(), Refusal> {
+    let (mut seat, mut reader) = (seat, reader);
     match step {
-        Step::Record => record(rt, provider, seat, 0),
-        Step::List => record_list(rt, provider, seat),
-        Step::Collect => collect(rt, alloc, provider, reader),
+        Step::Record => seat.record(rt, provider, 0, &[], 1),
+        Step::List => match seat.record_sets(rt, provider, 0, &[ONE, ONE]) {
+            Ok(()) => Ok(()),
+            Err(fault) => Err(fault.refusal),
+        },
+        Step::Collect => match reader.collect(rt, alloc, provider, 0, 10) {
+            Ok(_) => Ok(()),
+            Err(refusal) => Err(refusal),
+        },
         Step::Close => provider.close(rt, 0),
         Step::Grant => provider.grant(rt, 0, 0, 0),
     }
@@ -158,7 +135,8 @@ fn record_second<R: Wait>(
     flags: &Flags,
 ) -> Result<(), Refusal> {
     wait_inside(flags);
-    let answer = record(rt, provider, seat, instrument);
+    let mut seat = seat;
+    let answer = seat.record(rt, provider, instrument, &[], 1);
     flags.is_answered.store(true, Ordering::SeqCst);
     answer
 }
@@ -321,11 +299,7 @@ type Listed<'a> = Provider<Marked, Listing<'a>>;
 // Records on the second instrument, and a list of two on the first.
 fn record_all<R: Abort + Wait>(rt: &R, provider: &Listed<'_>, seat: &mut Recorder) {
     seat.record(rt, provider, 1, &[], 1).or_fail(rt);
-    let one = Measurement {
-        set: [0; 8],
-        value: 1,
-    };
-    seat.record_sets(rt, provider, 0, &[one, one]).or_fail(rt);
+    seat.record_sets(rt, provider, 0, &[ONE, ONE]).or_fail(rt);
 }
 
 // Makes a step of each kind: recordings, a collection of the second instrument, the end of the first, and a grant on
