@@ -403,3 +403,37 @@ fn each_call_of_an_exporter_is_answered(rt: HostRuntime) {
         page.assert(case.told);
     }
 }
+
+// Opens sinks in memory.
+#[derive(Drop)]
+struct Sinks {
+    alloc: Global,
+}
+
+impl OpenSink<CutSink> for Sinks {
+    ghost opens = { λ _ _ _. Unit {0} };
+
+    fn open(&mut self) -> Result<CutSink, Broken> {
+        Ok(CutSink::new(self.alloc, None))
+    }
+}
+
+// As where a file is renamed between two collections: the new one has what came later alone.
+#[test]
+fn a_sink_that_is_let_go_is_followed_by_a_new_one(rt: HostRuntime) {
+    let alloc = rt.alloc();
+    let sources = make_sources(&rt, alloc);
+    let lent = sources.lent();
+    let mut exporter = ReopeningExporter::new(Sinks { alloc });
+    exporter.export(alloc, lent.plan, lent.first).or_fail(&rt);
+    exporter.reopen().or_fail(&rt);
+    exporter.export(alloc, lent.plan, lent.first).or_fail(&rt);
+    let mut due = CutSink::new(alloc, None);
+    write_batch(alloc, &mut due, lent.plan, lent.first).or_fail(&rt);
+    let (_opener, sink) = exporter.into_parts();
+    let taken = match &sink {
+        Some(sink) => sink.taken().len(),
+        None => 0,
+    };
+    assert_equal(&rt, taken, due.taken().len());
+}

@@ -57,6 +57,10 @@ impl MetricExporter for Failing {
         Err(ExportFault::Write)
     }
 
+    fn retry(&mut self, _alloc: Global, _plan: &Plan) -> Result<(), ExportFault> {
+        Ok(())
+    }
+
     fn shutdown(&mut self) -> Result<(), ExportFault> {
         let answer = self.state.admit();
         self.state = ExporterState::ShutDown;

@@ -59,6 +59,10 @@ impl MetricExporter for WaveringExporter {
         self.state.admit()
     }
 
+    fn retry(&mut self, _alloc: Global, _plan: &Plan) -> Result<(), ExportFault> {
+        Ok(())
+    }
+
     fn shutdown(&mut self) -> Result<(), ExportFault> {
         let answer = self.state.admit();
         self.state = ExporterState::ShutDown;
