@@ -1,7 +1,8 @@
 //! Tests of the audit of a whole run, through the door.
-use crate::asserted::{OrFail, assert_equal};
+use crate::asserted::OrFail;
+use crate::page::Page;
 use metric_sdk::{
-    AuditedProvider, Batch, Collector, Entry, Extent, Items, Plan, Recorder, Runs, Slip, Totals,
+    AuditedProvider, Batch, Collector, Entry, Extent, Items, Recorder, Runs, Slip, Totals,
     audit_run, certified_plan, counter, open_audited,
 };
 use std::alloc::Global;
@@ -56,35 +57,43 @@ enum Change {
 // How much of a run is to be told, and a change of it, each with what its audit answers. There are eight batches: of
 // both readers, at two moments, of both instruments.
 const AUDITS: &[(Extent, Change, &str)] = &[
-    (Extent::Whole, Change::None, "done"),
-    (Extent::Partial, Change::None, "done"),
+    (Extent::Whole, Change::None, "done\n"),
+    (Extent::Partial, Change::None, "done\n"),
     (
         Extent::Whole,
         Change::Last,
-        "4 Uncovered by reader 1: instrument 1",
+        "4 Uncovered by reader 1: instrument 1\n",
     ),
-    (Extent::Partial, Change::Last, "done"),
-    (Extent::Whole, Change::Plan, "1 Strange at 0"),
-    (Extent::Whole, Change::Instrument(2), "1 Strange at 0"),
+    (Extent::Partial, Change::Last, "done\n"),
+    (Extent::Whole, Change::Plan, "1 Strange at 0\n"),
+    (Extent::Whole, Change::Instrument(2), "1 Strange at 0\n"),
     (
         Extent::Whole,
         Change::Instrument(1),
-        "3 Instrument 1: 2 Batch at 0",
+        "3 Instrument 1: 2 Batch at 0\n",
     ),
-    (Extent::Whole, Change::Mark, "3 Instrument 0: 2 Batch at 0"),
+    (
+        Extent::Whole,
+        Change::Mark,
+        "3 Instrument 0: 2 Batch at 0\n",
+    ),
     (
         Extent::Whole,
         Change::Reversed,
-        "3 Instrument 0: 2 Batch at 0",
+        "3 Instrument 0: 2 Batch at 0\n",
     ),
-    (Extent::Whole, Change::Lists, "2 Lists of instrument 1"),
-    (Extent::Whole, Change::Recorder, "2 Lists of instrument 1"),
+    (Extent::Whole, Change::Lists, "2 Lists of instrument 1\n"),
+    (Extent::Whole, Change::Recorder, "2 Lists of instrument 1\n"),
     (
         Extent::Whole,
         Change::Slip,
-        "3 Instrument 0: 1 Slips of recorder 0",
+        "3 Instrument 0: 1 Slips of recorder 0\n",
     ),
-    (Extent::Whole, Change::Entry, "3 Instrument 0: 4 Entry at 0"),
+    (
+        Extent::Whole,
+        Change::Entry,
+        "3 Instrument 0: 4 Entry at 0\n",
+    ),
 ];
 
 // What a run handed out.
@@ -211,22 +220,20 @@ fn make_change<R: Abort>(rt: &R, alloc: Global, told: &mut Told, change: &Change
     }
 }
 
-fn answer<R: Abort>(rt: &R, alloc: Global, plan: &Plan, told: Told, extent: Extent) -> String {
+// Writes what the audit of a run answers, of which so much is told after a change.
+fn tell_audit<R: Abort + Wait>(page: &mut Page<'_, R>, extent: Extent, change: &Change) {
+    let mut told = run(page.rt, page.alloc);
+    make_change(page.rt, page.alloc, &mut told, change);
+    let plan = certified_plan(page.alloc, SHOP, READERS).or_fail(page.rt);
     let Told { totals, batches } = told;
-    match audit_run(alloc, plan, &totals, 5, batches, extent) {
-        Ok(()) => String::from_str(alloc, "done").or_fail(rt),
-        Err(fault) => format!(in alloc; "{fault}").or_fail(rt),
-    }
+    page.answer(audit_run(page.alloc, &plan, &totals, 5, batches, extent))
 }
 
 #[test]
 fn a_run_is_audited_as_a_whole(rt: HostRuntime) {
-    let alloc = rt.alloc();
-    for (extent, altered, wanted) in AUDITS {
-        let mut told = run(&rt, alloc);
-        make_change(&rt, alloc, &mut told, altered);
-        let plan = certified_plan(alloc, SHOP, READERS).or_fail(&rt);
-        let answer = answer(&rt, alloc, &plan, told, *extent);
-        assert_equal(&rt, answer.as_str(), wanted);
+    for (extent, change, wanted) in AUDITS {
+        let mut page = Page::new(&rt, rt.alloc());
+        tell_audit(&mut page, *extent, change);
+        page.assert(wanted);
     }
 }
