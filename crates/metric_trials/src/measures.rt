@@ -1,26 +1,23 @@
 //! What recording, collecting, checking and replaying cost, beside floors measured in the same run.
 //!
-//! `all`, or no word, measures everything; `record`, `histogram`, `collect`, `encode`, `threads`, `check`, `replay`,
-//! `audit` and `memory` a part. `--series`, `--attributes`, `--threads` and `--events` set sizes. Each figure names its
-//! unit, and is the least of several repetitions; of what threads do at once it is the median.
+//! `all`, or no word, measures everything; `record`, `collect`, `encode`, `threads`, `check`, `replay`, `audit` and
+//! `memory` a part. `--series`, `--attributes`, `--threads` and `--events` set sizes. Each figure names its unit, and
+//! is the least of several repetitions; of what threads do at once it is the median.
 
 pub(crate) mod allocations;
 mod audits;
-mod bench;
-mod by_hand;
+mod calls;
 mod cells;
 mod checking;
 mod combined;
 mod encoding;
 mod floors;
-mod histograms;
-mod inputs;
-mod lists;
 mod memory;
+mod parts;
 mod points;
 mod recording;
 mod replaying;
-mod seats;
+mod table;
 mod tasks;
 mod threads;
 mod walk;
@@ -28,78 +25,104 @@ mod watch;
 mod words;
 mod works;
 
-use crate::measures::bench::Bench;
+use crate::asserted::OrFail;
+use crate::measures::parts::{Line, PARTS, Part, floor_name};
+use crate::measures::table::{Floor, Row, each, print_row, print_title, scaled};
 use crate::measures::words::Words;
-use std::process::ExitCode;
+use crate::measures::works::{Case, least};
+use std::alloc::Global;
+use std::process::Abort;
 use std::rt::Files;
 use std::sync::Wait;
 use std::thread::Threads;
 use std::time::Clock;
 
-/// Prints the table of the part that the words after the first name.
-pub(crate) fn run<R: Files + Print + Eprint + AllocGlobal + Threads + Wait + Clock + Sync>(
+/// Prints the table of the part that the words name. Whether they are right.
+pub(crate) fn run<R: Files + Print + AllocGlobal + Threads + Wait + Clock + Sync + Abort>(
     rt: &R,
+    alloc: Global,
     words: &[String],
-) -> anyhow::Result<ExitCode> {
-    match words::words_of(rt.alloc(), words) {
-        Ok(words) => print_table(rt, &words),
-        Err(error) => {
-            error.print(rt)?;
-            Ok(ExitCode::from(2))
+) -> bool {
+    let Some(words) = words::words_of(words) else {
+        return false;
+    };
+    if words.ask_for("memory") {
+        memory::measure(rt, alloc);
+    }
+    let mut tally: u64 = 0;
+    for part in PARTS {
+        if words.ask_for(part.word) {
+            measure(rt, alloc, part, &words, &mut tally);
         }
     }
-}
-
-fn print_table<R: Files + Print + AllocGlobal + Threads + Wait + Clock + Sync>(
-    rt: &R,
-    words: &Words<'_>,
-) -> anyhow::Result<ExitCode> {
-    let mut bench = Bench::new(rt.alloc());
-    measure(rt, &mut bench, words)?;
-    print!(rt; "{}", bench.text())?;
-    Ok(ExitCode::SUCCESS)
-}
-
-fn measure<R: Files + AllocGlobal + Threads + Wait + Clock + Sync>(
-    rt: &R,
-    bench: &mut Bench,
-    words: &Words<'_>,
-) -> anyhow::Result<()> {
-    if words.ask_for("memory") {
-        memory::measure(rt, bench)?;
-    }
-    measure_recordings(rt, bench, words)?;
-    if words.ask_for("check") {
-        checking::measure(rt, bench)?;
-    }
-    if words.ask_for("replay") {
-        replaying::measure(rt, bench)?;
-    }
-    if words.ask_for("audit") {
-        audits::measure(rt, bench)?;
-    }
-    bench.end()
-}
-
-fn measure_recordings<R: Threads + Wait + Clock + Sync>(
-    rt: &R,
-    bench: &mut Bench,
-    words: &Words<'_>,
-) -> anyhow::Result<()> {
-    if words.ask_for("record") {
-        recording::measure(rt, bench, words)?;
-    }
-    if words.ask_for("histogram") {
-        histograms::measure(rt, bench, words.events)?;
-    }
-    if words.ask_for("collect") {
-        recording::measure_collections(rt, bench, words)?;
-    }
-    if words.ask_for("encode") {
-        encoding::measure(rt, bench, words)?;
-    }
     if words.ask_for("threads") {
-        threads::measure(rt, bench, words)?;
+        threads::measure(rt, alloc, &words, &mut tally);
     }
-    Ok(())
+    println!(rt; "\ntally {tally}").or_fail(rt);
+    true
+}
+
+fn measure<R: Print + Wait + Clock + Abort>(
+    rt: &R,
+    alloc: Global,
+    part: &Part,
+    words: &Words<'_>,
+    tally: &mut u64,
+) {
+    print_title(rt, part.title, part.counted);
+    for size in words.sizes_or(part.place, part.sizes) {
+        measure_size(rt, alloc, part, *size, words.events(), tally);
+    }
+}
+
+fn measure_size<R: Print + Wait + Clock + Abort>(
+    rt: &R,
+    alloc: Global,
+    part: &Part,
+    size: u32,
+    events: u32,
+    tally: &mut u64,
+) {
+    for line in part.lines {
+        let (_, kind, act, _) = *line;
+        let case = Case {
+            act,
+            kind,
+            is_dense: part.is_dense,
+            streams: part.streams,
+            size,
+            events,
+        };
+        measure_line(rt, alloc, part, line, &case, tally);
+    }
+}
+
+// Measures what a line tells, and what stands beside it.
+fn measure_line<R: Print + Wait + Clock + Abort>(
+    rt: &R,
+    alloc: Global,
+    part: &Part,
+    line: &Line,
+    case: &Case,
+    tally: &mut u64,
+) {
+    let (name, _, _, act) = *line;
+    let one = least(rt, alloc, &Case { act, ..*case });
+    let told = least(rt, alloc, case);
+    *tally = tally.wrapping_add(one.number).wrapping_add(told.number);
+    let floor = Floor {
+        name: floor_name(act),
+        each: scaled(
+            each(one.nanoseconds, one.operations),
+            told.floors,
+            told.operations,
+        ),
+    };
+    let row = Row {
+        name,
+        size: told.size,
+        unit: part.unit,
+        operations: told.operations,
+    };
+    print_row(rt, &row, floor, each(told.nanoseconds, told.operations));
 }

@@ -1,6 +1,18 @@
 //! A provider with the seats of its recorders and readers.
+ghost use Rattle.std.specs.Prelude.{IsTrue};
+
+use crate::asserted::OrFail;
 use metric_history::Book;
-use metric_sdk::{Collector, NoGate, Provider, Recorder};
+use metric_sdk::{
+    AuditFault, Batch, Collector, NoGate, Plan, Provider, Recorder, Totals, audit, certified_plan,
+    start_with_lanes,
+};
+use std::alloc::Global;
+use std::process::Abort;
+use std::sync::Wait;
+
+/// When a run starts, in nanoseconds.
+pub(crate) const START: u64 = 0;
 
 /// A provider over a book, and the seats of its recorders and readers, in order.
 pub(crate) struct Seats<B: Book> {
@@ -21,6 +33,16 @@ impl<B: Book> Drop for Seats<B> {
 }
 
 impl<B: Book> Seats<B> {
+    /// The provider, and the seats of its recorders and readers.
+    pub(crate) fn into_all(self) -> (Provider<B, NoGate>, Vec<Recorder>, Vec<Collector>) {
+        let Seats {
+            provider,
+            recorders,
+            collectors,
+        } = self;
+        (provider, recorders, collectors)
+    }
+
     /// The provider, and the seats of its recorders.
     pub(crate) fn into_parts(self) -> (Provider<B, NoGate>, Vec<Recorder>) {
         let Seats {
@@ -30,4 +52,67 @@ impl<B: Book> Seats<B> {
         } = self;
         (provider, recorders)
     }
+
+    /// What the provider comes to.
+    pub(crate) fn finish<R: Wait + Abort>(self, rt: &R, alloc: Global) -> Totals {
+        let (provider, recorders) = self.into_parts();
+        provider.finish(rt, alloc, recorders).ok().or_fail(rt)
+    }
+}
+
+/// The certified plan of a catalogue and a config.
+pub(crate) fn plan_of<R: Abort>(rt: &R, alloc: Global, catalogue: &str, config: &str) -> Plan
+    ensures { IsTrue result.is_certified }
+{
+    certified_plan(alloc, catalogue, config).or_fail(rt)
+}
+
+/// The seats of a certified plan, where an instrument has so many lanes at most, or the plan when out of memory.
+pub(crate) fn started<R: Wait, B: Book>(
+    rt: &R,
+    alloc: Global,
+    plan: Plan,
+    run: u64,
+    lanes: u32,
+) -> Result<Seats<B>, Plan>
+    requires { IsTrue plan.is_certified }
+{
+    match start_with_lanes(rt, alloc, plan, START, run, NoGate, lanes) {
+        Ok((provider, recorders, collectors)) => Ok(Seats {
+            provider,
+            recorders,
+            collectors,
+        }),
+        Err((plan, _gate, _error)) => Err(plan),
+    }
+}
+
+/// The same, which has to succeed, of the first run.
+pub(crate) fn seats_of<R: Wait + Abort, B: Book>(
+    rt: &R,
+    alloc: Global,
+    plan: Plan,
+    lanes: u32,
+) -> Seats<B>
+    requires { IsTrue plan.is_certified }
+{
+    started(rt, alloc, plan, 1, lanes).ok().or_fail(rt)
+}
+
+/// Audits an instrument. How many entries its journal has.
+pub(crate) fn audited<R: Abort>(
+    rt: &R,
+    alloc: Global,
+    plan: &Plan,
+    instrument: u32,
+    totals: &Totals,
+    batches: &[Batch],
+) -> Result<u64, AuditFault> {
+    let at = instrument as usize;
+    let entries = totals.journals.get(at).or_fail(rt).as_slice();
+    let slips = totals.slips.get(at).or_fail(rt).as_slice();
+    assert!(rt; at < plan.all_facts().len());
+    assert!(rt; slips.len() == plan.catalogue().recorders().len());
+    audit(alloc, plan, instrument, START, entries, slips, batches)?;
+    Ok(entries.len() as u64)
 }

@@ -15,17 +15,14 @@ mod reading;
 mod recording;
 mod rounds;
 mod seen;
-mod words;
 
-use crate::soak::figures::Figures;
+use crate::asserted::OrFail;
+use crate::soak::figures::{Figures, print_figures};
 use crate::soak::inputs::catalogue;
-use crate::soak::rounds::{Length, Setup, round};
-use crate::soak::words::Words;
-use anyhow::bail;
-use metric_history::Book;
+use crate::soak::rounds::{Setup, round};
 use metric_sdk::{Audited, Marked};
 use std::alloc::Global;
-use std::io;
+use std::process::Abort;
 use std::sync::Wait;
 use std::thread::{Threads, available_parallelism};
 use std::time::{Clock, Instant};
@@ -38,125 +35,84 @@ const MOST_RECORDERS: usize = 64;
 // How many rounds there are at most over each book.
 const MOST_ROUNDS: u64 = 1_000_000;
 
+// The longest soak, in seconds.
+const MOST_SECONDS: u64 = 3_600;
+
 // How often each recorder records in a round over each book, and in a short one. What an audit reads is held in memory.
-const MARKED: Length = Length { events: 200_000 };
+const MARKED: u32 = 200_000;
 
-const AUDITED: Length = Length { events: 12_000 };
+const AUDITED: u32 = 12_000;
 
-const SHORT: Length = Length { events: 600 };
+const SHORT: u32 = 600;
 
 // How many lanes an instrument may have in the short ones: fewer than recorders, so that some share a lane.
 const LANES: u32 = 4;
 
 // What all rounds have.
-fn setup_of<R: Threads>(rt: &R, alloc: Global, lanes: u32) -> anyhow::Result<Setup> {
-    let recorders = recorders_of(rt)?;
-    Ok(Setup {
-        catalogue: catalogue(alloc, recorders)?,
+fn setup_of<R: Threads + Abort>(rt: &R, alloc: Global, lanes: u32) -> Setup {
+    let processors = available_parallelism(rt).or_fail(rt).get();
+    let recorders = processors.saturating_add(MORE).min(MOST_RECORDERS) as u32;
+    Setup {
+        catalogue: catalogue(rt, alloc, recorders),
         recorders,
         lanes,
-    })
-}
-
-// How many recorders there are.
-fn recorders_of<R: Threads>(rt: &R) -> anyhow::Result<u32> {
-    let processors = available_parallelism(rt)?.get();
-    let recorders = processors.saturating_add(MORE).min(MOST_RECORDERS);
-    Ok(u32::try_from(recorders).unwrap_or(1))
+    }
 }
 
 /// Makes a short round over each book.
-pub(crate) fn try_once<R: Threads + Wait + Clock + Print + Sync>(
-    rt: &R,
-    alloc: Global,
-) -> anyhow::Result<()> {
-    let setup = setup_of(rt, alloc, LANES)?;
+pub(crate) fn try_once<R: Threads + Wait + Clock + Print + Sync + Abort>(rt: &R, alloc: Global) {
+    let setup = setup_of(rt, alloc, LANES);
     let mut figures = Figures::new();
-    add_round::<R, Marked>(rt, alloc, &setup, SHORT, &mut figures)?;
-    println!(rt; "marked: nothing is off")?;
-    add_round::<R, Audited>(rt, alloc, &setup, SHORT, &mut figures)?;
-    println!(rt; "audited: nothing is off")?;
-    Ok(())
+    round::<R, Marked>(rt, alloc, &setup, SHORT, &mut figures);
+    println!(rt; "marked: nothing is off").or_fail(rt);
+    round::<R, Audited>(rt, alloc, &setup, SHORT, &mut figures);
+    println!(rt; "audited: nothing is off").or_fail(rt);
 }
 
-/// Soaks for as long as the words say.
-pub(crate) fn run<R: Threads + Wait + Clock + Print + Sync>(
+/// Soaks for as long as the words say. Whether they are right.
+pub(crate) fn run<R: Threads + Wait + Clock + Print + Sync + Abort>(
     rt: &R,
     alloc: Global,
     words: &[String],
-) -> anyhow::Result<()> {
-    let Words { seconds, lanes } = words::read(words)?;
-    soak(rt, alloc, &setup_of(rt, alloc, lanes)?, seconds)
+) -> bool {
+    let (seconds, lanes) = match words {
+        [flag, seconds] if flag.as_str() == "--seconds" => (seconds, 1),
+        [flag, seconds, more, lanes]
+            if flag.as_str() == "--seconds" && more.as_str() == "--lanes" => {
+            (seconds, lanes.as_str().parse::<u32>().or_fail(rt))
+        }
+        _ => return false,
+    };
+    let seconds = seconds.as_str().parse::<u64>().or_fail(rt);
+    if seconds > MOST_SECONDS {
+        return false;
+    }
+    soak(rt, alloc, &setup_of(rt, alloc, lanes), seconds);
+    true
 }
 
 // Makes rounds over each book in turn until so many seconds have passed, and prints what they did.
-fn soak<R: Threads + Wait + Clock + Print + Sync>(
+fn soak<R: Threads + Wait + Clock + Print + Sync + Abort>(
     rt: &R,
     alloc: Global,
     setup: &Setup,
     seconds: u64,
-) -> anyhow::Result<()> {
-    let start = Instant::now(rt)?;
+) {
+    let start = Instant::now(rt).or_fail(rt);
     let mut marked = Figures::new();
     let mut audited = Figures::new();
     for _ in 0..MOST_ROUNDS {
-        add_round::<R, Marked>(rt, alloc, setup, MARKED, &mut marked)?;
-        add_round::<R, Audited>(rt, alloc, setup, AUDITED, &mut audited)?;
-        if start.elapsed(rt)?.as_secs() >= seconds {
+        round::<R, Marked>(rt, alloc, setup, MARKED, &mut marked);
+        round::<R, Audited>(rt, alloc, setup, AUDITED, &mut audited);
+        if start.elapsed(rt).or_fail(rt).as_secs() >= seconds {
             break;
         }
     }
     println!(rt;
         "{} recorders and 2 readers; lanes: {} at most",
         setup.recorders, setup.lanes
-    )?;
-    print_figures(rt, "marked", &marked)?;
-    print_figures(rt, "audited", &audited)?;
-    Ok(())
-}
-
-// Makes a round, whose number of a run no other has, and adds its figures.
-fn add_round<R: Threads + Wait + Clock + Sync, B: Book + Send + Sync>(
-    rt: &R,
-    alloc: Global,
-    setup: &Setup,
-    length: Length,
-    figures: &mut Figures,
-) -> anyhow::Result<()> {
-    match round::<R, B>(rt, alloc, setup, length, figures) {
-        Ok(()) => Ok(()),
-        Err(error) => bail!("round {}: {error}", figures.rounds),
-    }
-}
-
-fn print_figures<R: Print>(rt: &R, book: &str, figures: &Figures) -> io::Result<()> {
-    let recordings = [
-        (figures.rounds, " rounds, "),
-        (figures.accepted, " recordings accepted, "),
-        (figures.closed, " refused as closed, "),
-        (figures.beyond, " beyond a budget"),
-    ];
-    let collections = [
-        (figures.grants, " grants, "),
-        (figures.deltas, " delta and "),
-        (figures.cumulatives, " cumulative collections, "),
-        (figures.points, " points"),
-    ];
-    let compared = [
-        (figures.settled, " totals settled, "),
-        (figures.batches, " batches of "),
-        (figures.entries, " recordings audited, nothing is off"),
-    ];
-    print_line(rt, book, &recordings)?;
-    print_line(rt, book, &collections)?;
-    print_line(rt, book, &compared)
-}
-
-// Prints a line of what a book did: each figure, and what stands behind it.
-fn print_line<R: Print>(rt: &R, book: &str, figures: &[(u64, &str)]) -> io::Result<()> {
-    print!(rt; "{book}: ")?;
-    for (figure, name) in figures {
-        print!(rt; "{}{}", *figure, *name)?;
-    }
-    println!(rt; "")
+    )
+    .or_fail(rt);
+    print_figures(rt, "marked", &marked);
+    print_figures(rt, "audited", &audited);
 }

@@ -2,28 +2,12 @@
 ghost use Rattle.std.specs.Prelude.{◌≡◌, ◌<◌, true, length, All, IsTrue};
 ghost use Rattle.metric_facts.specs.Facts.{in_bounds, is_allowed_set};
 
-use crate::measures::inputs::{set_of, value_of, values_for};
+use crate::asserted::{OrFail, hold};
 use metric_core::Cell;
 use metric_facts::{Facts, is_allowed_set};
 use metric_sdk::{Batch, Marked, Measurement, Plan};
-use std::alloc::{AllocError, Global};
-
-/// So many recordings of series, one after the other and over again, with different values.
-pub(crate) fn recordings(
-    alloc: Global,
-    count: u32,
-    series: u32,
-) -> Result<Vec<Measurement>, AllocError> {
-    let values = values_for(series);
-    let series = series.max(1);
-    let mut recordings = Vec::with_capacity(alloc, count as usize)?;
-    for number in 0..count {
-        let set = set_of(number % series, values);
-        let value = value_of(number);
-        recordings.push(Measurement { set, value })?;
-    }
-    Ok(recordings)
-}
+use std::alloc::Global;
+use std::process::Abort;
 
 /// The cell of an instrument, and recordings that it may take.
 #[derive(Drop)]
@@ -37,39 +21,34 @@ pub(crate) struct Instrument {
 
 impl Instrument {
     /// The first instrument of a plan, which has recorded nothing, and recordings for it.
-    pub(crate) fn new(
+    pub(crate) fn new<R: Abort>(
+        rt: &R,
         alloc: Global,
         plan: &Plan,
         recordings: Vec<Measurement>,
-    ) -> anyhow::Result<Instrument> {
-        if plan.all_facts().len() == 0 {
-            anyhow::bail!("no instrument");
-        }
-        let cell = Cell::new(alloc, plan, 0, 0)?;
-        if cell.facts().budgets.len() == 0 || !are_sound(cell.facts(), &recordings) {
-            anyhow::bail!("a recording that the instrument refuses");
-        }
-        Ok(Instrument { cell, recordings })
+    ) -> Instrument {
+        assert!(rt; plan.all_facts().len() > 0);
+        let cell = Cell::new(alloc, plan, 0, 0).or_fail(rt);
+        assert!(rt; cell.facts().budgets.len() > 0);
+        assert!(rt; are_sound(cell.facts(), &recordings));
+        Instrument { cell, recordings }
     }
 
     /// Makes each recording so many times. How many there were.
-    pub(crate) fn repeat(&mut self, rounds: u32) -> anyhow::Result<u64> {
+    pub(crate) fn repeat<R: Abort>(&mut self, rt: &R, rounds: u32) -> u64 {
         let mut accepted: u64 = 0;
         for _ in 0..rounds {
             accepted = accepted.wrapping_add(record_all(&mut self.cell, &self.recordings));
         }
-        if accepted != u64::from(rounds).wrapping_mul(self.recordings.len() as u64) {
-            anyhow::bail!("a recording was refused");
-        }
-        Ok(accepted)
+        let due = u64::from(rounds).wrapping_mul(self.recordings.len() as u64);
+        hold(rt, accepted == due, "a recording was refused");
+        accepted
     }
 
     /// What the first reader collects.
-    pub(crate) fn collect(&mut self, alloc: Global) -> anyhow::Result<Batch> {
-        if self.cell.facts().delta.len() == 0 {
-            anyhow::bail!("no reader");
-        }
-        Ok(self.cell.collect(alloc, 0, 0)?)
+    pub(crate) fn collect<R: Abort>(&mut self, rt: &R, alloc: Global) -> Batch {
+        assert!(rt; self.cell.facts().delta.len() > 0);
+        self.cell.collect(alloc, 0, 0).or_fail(rt)
     }
 }
 

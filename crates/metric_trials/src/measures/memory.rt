@@ -1,186 +1,127 @@
-//! How much memory a series takes.
-use crate::measures::bench::{Bench, Row, Unit, each};
-use crate::measures::cells::{Instrument, recordings};
-use crate::measures::floors::{Floor, map_of};
-use crate::measures::inputs::{Found, one_of, plan_of, sets};
-use crate::measures::seats::{Keyed, started};
-use crate::seats::Seats;
-use anyhow::Context;
+//! How much memory a series takes, and a recording that is kept.
+use crate::asserted::OrFail;
+use crate::inputs::{one_of, recordings, sets, shaped_plan};
+use crate::measures::calls::{Calls, How};
+use crate::measures::cells::Instrument;
+use crate::measures::floors::map_of;
+use crate::measures::table::{Floor, Row, Unit, each, print_row, print_title};
+use crate::seats::{Seats, seats_of};
 use indexmap::IndexMap;
-use metric_sdk::{Audited, Measurement, SetKey};
-use std::alloc::{AllocError, Global};
+use metric_sdk::{Audited, SetKey};
+use std::alloc::Global;
 use std::fs;
+use std::process::Abort;
 use std::rt::Files;
 use std::sync::Wait;
 
 // How many series there are, so many that pages of memory and what a map keeps in reserve weigh little.
 const SERIES: u32 = 100_000;
 
+// How many recordings are kept, and the series that they are of.
+const KEPT: u32 = 500_000;
+
+const KEPT_SERIES: u32 = 1_000;
+
 // The bytes of a page.
 const PAGE: u64 = 4_096;
 
 // The kinds of instruments, in the order of their numbers.
-const KINDS: &[(u32, &str)] = &[
-    (0, "sum"),
-    (1, "last value"),
-    (2, "histogram of 15"),
-    (3, "histogram of 128"),
-];
+const KINDS: &[&str] = &["sum", "last value", "histogram of 15", "histogram of 128"];
 
-// How series are found, dense ones first: their memory comes at once, so none is left over from smaller tables.
-const PARTS: &[(&str, Found)] = &[
-    ("memory, dense", Found::Dense),
-    ("memory, by hash", Found::ByHash),
-];
+// Whether tables are dense: these come first, since their memory comes at once, so that none is left over from smaller
+// tables.
+const PARTS: &[(&str, bool)] = &[("memory, dense", true), ("memory, by hash", false)];
+
+// What came into use, for each of so many.
+fn floor_of(name: &'static str, bytes: u64, count: u32) -> Floor {
+    Floor {
+        name,
+        each: each(bytes, u64::from(count)),
+    }
+}
+
+fn print_bytes<R: Print + Abort>(
+    rt: &R,
+    name: &'static str,
+    unit: &'static str,
+    count: u32,
+    floor: Floor,
+    bytes: u64,
+) {
+    let row = Row {
+        name,
+        size: u64::from(count),
+        unit: Unit::each(unit, unit),
+        operations: u64::from(count),
+    };
+    print_row(rt, &row, floor, each(bytes, row.operations));
+}
 
 /// Measures the memory of series: of each kind, and beside it that of a map of as many set keys to numbers. It is
 /// the memory that the process has in use, before there was an instrument and after its series came, so this is
 /// measured first, and all that is measured is kept to the end, since memory that is given back may stay in use.
-pub(crate) fn measure<R: Files + AllocGlobal + Wait>(
-    rt: &R,
-    bench: &mut Bench,
-) -> anyhow::Result<()> {
-    let sets = sets(bench.alloc, SERIES)?;
-    let before = in_use(rt)?;
-    let _map: IndexMap<SetKey, u64> = map_of(bench.alloc, &sets)?;
-    measure_beside(rt, bench, before)
-}
-
-// Measures beside what came into use with a map.
-fn measure_beside<R: Files + AllocGlobal + Wait>(
-    rt: &R,
-    bench: &mut Bench,
-    before: u64,
-) -> anyhow::Result<()> {
-    bench.floor = Floor {
-        name: "a map of set keys",
-        each: each(in_use(rt)?.saturating_sub(before), u64::from(SERIES)),
-    };
-    let mut kept = Vec::new(bench.alloc);
-    measure_all(rt, bench, &mut kept)
-}
-
-fn measure_all<R: Files + AllocGlobal + Wait>(
-    rt: &R,
-    bench: &mut Bench,
-    kept: &mut Vec<Instrument>,
-) -> anyhow::Result<()> {
-    for (title, found) in PARTS {
-        bench.begin(*title, "series");
-        measure_part(rt, bench, *found, kept)?;
+pub(crate) fn measure<R: Files + Print + AllocGlobal + Wait + Abort>(rt: &R, alloc: Global) {
+    let sets = sets(rt, alloc, SERIES);
+    let before = in_use(rt);
+    let _map: IndexMap<SetKey, u64> = map_of(rt, alloc, &sets);
+    let floor = floor_of("a map of set keys", in_use_since(rt, before), SERIES);
+    let mut kept = Vec::new(alloc);
+    for (title, is_dense) in PARTS {
+        print_title(rt, *title, "series");
+        measure_kinds(rt, alloc, *is_dense, floor, &mut kept);
     }
-    measure_recordings(rt, bench)
+    measure_kept(rt, alloc);
 }
 
-// How many recordings are kept.
-const KEPT: u32 = 500_000;
-
-// The series that they are of.
-const KEPT_SERIES: u32 = 1_000;
+fn measure_kinds<R: Files + Print + AllocGlobal + Abort>(
+    rt: &R,
+    alloc: Global,
+    is_dense: bool,
+    floor: Floor,
+    kept: &mut Vec<Instrument>,
+) {
+    for (kind, name) in KINDS.iter().enumerate() {
+        let plan = shaped_plan(rt, alloc, &one_of(kind, SERIES, is_dense), 1);
+        let recordings = recordings(rt, alloc, SERIES, SERIES);
+        let before = in_use(rt);
+        let mut instrument = Instrument::new(rt, alloc, &plan, recordings);
+        instrument.repeat(rt, 1);
+        let bytes = in_use_since(rt, before);
+        print_bytes(rt, *name, "B a series", SERIES, floor, bytes);
+        kept.push(instrument).ok().or_fail(rt);
+    }
+}
 
 // Measures what each recording takes over books that keep it, beside a list of as many set keys and values.
-fn measure_recordings<R: Files + AllocGlobal + Wait>(
-    rt: &R,
-    bench: &mut Bench,
-) -> anyhow::Result<()> {
-    let before = in_use(rt)?;
-    let recordings = recordings(bench.alloc, KEPT, KEPT_SERIES)?;
-    measure_kept(rt, bench, &recordings, before)
-}
-
-fn measure_kept<R: Files + AllocGlobal + Wait>(
-    rt: &R,
-    bench: &mut Bench,
-    recordings: &[Measurement],
-    before: u64,
-) -> anyhow::Result<()> {
-    bench.floor = Floor {
-        name: "a list of set keys and values",
-        each: each(in_use(rt)?.saturating_sub(before), u64::from(KEPT)),
-    };
-    bench.begin("memory, audited", "recordings");
-    let row = Row {
-        name: "a recording kept, with its slip",
-        size: u64::from(KEPT),
-        operations: u64::from(KEPT),
-        unit: Unit::each("B a recording"),
-    };
-    let bytes = bytes_of_kept(rt, bench.alloc, recordings)?;
-    bench.add(&row, bytes);
-    Ok(())
-}
-
-fn bytes_of_kept<R: Files + AllocGlobal + Wait>(
-    rt: &R,
-    alloc: Global,
-    recordings: &[Measurement],
-) -> anyhow::Result<u64> {
-    let plan = plan_of(alloc, &one_of(0, KEPT_SERIES, Found::Dense), 1)?;
-    let mut seats: Seats<Audited> = started(rt, alloc, plan)?;
-    let keyed = Keyed {
+fn measure_kept<R: Files + Print + AllocGlobal + Wait + Abort>(rt: &R, alloc: Global) {
+    let before = in_use(rt);
+    let recordings = recordings(rt, alloc, KEPT, KEPT_SERIES);
+    let bytes = in_use_since(rt, before);
+    let floor = floor_of("a list of set keys and values", bytes, KEPT);
+    let calls = Calls {
+        how: How::Sets,
         instrument: 0,
-        recordings,
-        are_listed: false,
+        series: KEPT_SERIES,
+        recordings: &recordings,
     };
-    bytes_of_round(rt, &mut seats, keyed)
+    let plan = shaped_plan(rt, alloc, &one_of(0, KEPT_SERIES, true), 1);
+    let mut seats: Seats<Audited> = seats_of(rt, alloc, plan, 1);
+    let recorder = seats.recorders.last_mut().or_fail(rt);
+    let before = in_use(rt);
+    calls.repeat(rt, &seats.provider, recorder, 1);
+    let bytes = in_use_since(rt, before);
+    print_title(rt, "memory, audited", "recordings");
+    let name = "a recording kept, with its slip";
+    print_bytes(rt, name, "B a recording", KEPT, floor, bytes);
 }
 
-fn bytes_of_round<R: Files + AllocGlobal + Wait>(
-    rt: &R,
-    seats: &mut Seats<Audited>,
-    keyed: Keyed<'_>,
-) -> anyhow::Result<u64> {
-    let recorder = seats.recorders.last_mut().context("no recorder")?;
-    let before = in_use(rt)?;
-    keyed.repeat(rt, &seats.provider, recorder, 1)?;
-    Ok(in_use(rt)?.saturating_sub(before))
-}
-
-fn measure_part<R: Files + AllocGlobal>(
-    rt: &R,
-    bench: &mut Bench,
-    found: Found,
-    kept: &mut Vec<Instrument>,
-) -> anyhow::Result<()> {
-    for (kind, name) in KINDS {
-        let bytes = bytes_of_series(rt, bench.alloc, *kind, found, kept)?;
-        let row = Row {
-            name: *name,
-            size: u64::from(SERIES),
-            operations: u64::from(SERIES),
-            unit: Unit::each("B a series"),
-        };
-        bench.add(&row, bytes);
-    }
-    Ok(())
-}
-
-fn bytes_of_series<R: Files + AllocGlobal>(
-    rt: &R,
-    alloc: Global,
-    kind: u32,
-    found: Found,
-    kept: &mut Vec<Instrument>,
-) -> anyhow::Result<u64> {
-    let plan = plan_of(alloc, &one_of(kind, SERIES, found), 1)?;
-    let recordings = recordings(alloc, SERIES, SERIES)?;
-    let before = in_use(rt)?;
-    let mut instrument = Instrument::new(alloc, &plan, recordings)?;
-    instrument.repeat(1)?;
-    let after = in_use(rt)?;
-    kept.push(instrument).map_err(AllocError::from)?;
-    Ok(after.saturating_sub(before))
+fn in_use_since<R: Files + AllocGlobal + Abort>(rt: &R, before: u64) -> u64 {
+    in_use(rt).saturating_sub(before)
 }
 
 // How many bytes the process has in use.
-fn in_use<R: Files + AllocGlobal>(rt: &R) -> anyhow::Result<u64> {
-    let text = fs::read_to_string(rt, "/proc/self/statm")?;
-    pages_in(&text)
-}
-
-fn pages_in(text: &str) -> anyhow::Result<u64> {
-    let Some(word) = text.split_ascii_whitespace().nth(1) else {
-        anyhow::bail!("the system does not tell the memory in use");
-    };
-    Ok(word.parse::<u64>()?.saturating_mul(PAGE))
+fn in_use<R: Files + AllocGlobal + Abort>(rt: &R) -> u64 {
+    let text = fs::read_to_string(rt, "/proc/self/statm").or_fail(rt);
+    let word = text.as_str().split_ascii_whitespace().nth(1).or_fail(rt);
+    word.parse::<u64>().or_fail(rt).saturating_mul(PAGE)
 }

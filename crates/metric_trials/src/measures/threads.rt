@@ -1,24 +1,25 @@
 //! What recordings cost that several threads make at once, and a collection beside them.
-use crate::measures::bench::{Bench, Row, Unit, each};
-use crate::measures::cells::recordings;
-use crate::measures::floors::{Floor, look_up};
-use crate::measures::inputs::{BUDGET, Shape, WIDE_KEYS, plan_of, values_for};
-use crate::measures::seats::{Keyed, Rounds, record_by_last, started_in_lanes};
-use crate::measures::tasks::{Caller, Collections, Runner, Task, times_together};
-use crate::measures::watch::Spread;
-use crate::measures::words::Words;
-use crate::seats::Seats;
+use crate::asserted::OrFail;
+use crate::inputs::{counters, recordings, shaped_plan, values_for};
+use crate::measures::calls::{Calls, How};
+use crate::measures::table::{
+    Floor, Row, Unit, each, print_row, print_spread, print_title, scaled,
+};
+use crate::measures::tasks::{Runner, Task, times_together};
+use crate::measures::words::{THREADS, Words};
+use crate::measures::works::{Act, Case, least};
+use crate::seats::{Seats, seats_of};
 use crossbeam_utils::CachePadded;
-use metric_sdk::{Collector, Marked, Measurement, MeterProvider, Recorder};
-use std::alloc::{AllocError, Global};
+use metric_sdk::{Marked, Measurement};
+use std::alloc::Global;
+use std::process::Abort;
 use std::sync::{Mutex, Wait};
 use std::thread::Threads;
 use std::time::Clock;
 
-// How many threads record, where no word says it.
-const THREADS: &[u32] = &[1, 2, 4];
+// How many threads record, where no word says it, and how many beside a collection.
+const SOME: &[u32] = &[1, 2, 4];
 
-// How many threads record beside a collection.
 const BESIDE: &[u32] = &[0, 1, 4];
 
 // How many collections are measured at once.
@@ -36,331 +37,292 @@ const MORE: u32 = 4;
 // What a bare lock costs.
 const LOCK: &str = "a lock with an addition, as many threads";
 
-// What threads record: one instrument of one lane, one with a lane for each, or an instrument each, each recording by
-// itself or lists under one lock; or one instrument until all have been collected.
+// What threads record.
 #[derive(Clone, Copy)]
-enum Sharing {
-    One,
-    OneByLists,
-    Lanes,
-    LanesByLists,
-    Each,
-    EachByLists,
-    Beside,
+struct Sharing {
+    // The names of the line of the time, and of that of the throughput.
+    name: &'static str,
+    throughput: &'static str,
+    // Whether each thread has an instrument, and whether an instrument has a lane for each.
+    has_own: bool,
+    has_lanes: bool,
+    how: How,
+    // Whether it goes on until all has been collected.
+    is_collected: bool,
 }
 
 // In which order they are measured.
 const SHARINGS: &[Sharing] = &[
-    Sharing::One,
-    Sharing::OneByLists,
-    Sharing::Lanes,
-    Sharing::LanesByLists,
-    Sharing::Each,
-    Sharing::EachByLists,
+    Sharing {
+        name: "one instrument",
+        throughput: "one instrument, throughput",
+        has_own: false,
+        has_lanes: false,
+        how: How::Attributes,
+        is_collected: false,
+    },
+    Sharing {
+        name: "one instrument, lists of 16",
+        throughput: "one instrument, lists, throughput",
+        has_own: false,
+        has_lanes: false,
+        how: How::Lists,
+        is_collected: false,
+    },
+    Sharing {
+        name: "a lane each",
+        throughput: "a lane each, throughput",
+        has_own: false,
+        has_lanes: true,
+        how: How::Attributes,
+        is_collected: false,
+    },
+    Sharing {
+        name: "a lane each, lists of 16",
+        throughput: "a lane each, lists, throughput",
+        has_own: false,
+        has_lanes: true,
+        how: How::Lists,
+        is_collected: false,
+    },
+    Sharing {
+        name: "an instrument each",
+        throughput: "an instrument each, throughput",
+        has_own: true,
+        has_lanes: false,
+        how: How::Attributes,
+        is_collected: false,
+    },
+    Sharing {
+        name: "an instrument each, lists of 16",
+        throughput: "an instrument each, lists, throughput",
+        has_own: true,
+        has_lanes: false,
+        how: How::Lists,
+        is_collected: false,
+    },
 ];
 
-impl Sharing {
-    // Which one the thread of this number has.
-    fn number(self, thread: u32) -> u32 {
-        match self {
-            Sharing::Each | Sharing::EachByLists => thread,
-            _ => 0,
-        }
-    }
-
-    // How many lanes an instrument of so many recorders has.
-    fn lanes(self, recorders: u32) -> u32 {
-        match self {
-            Sharing::Lanes | Sharing::LanesByLists => recorders,
-            _ => 1,
-        }
-    }
-
-    // The names of the line of the time, and of that of the throughput.
-    fn names(self) -> (&'static str, &'static str) {
-        match self {
-            Sharing::Each => ("an instrument each", "an instrument each, throughput"),
-            Sharing::EachByLists => (
-                "an instrument each, lists of 16",
-                "an instrument each, lists, throughput",
-            ),
-            Sharing::OneByLists => (
-                "one instrument, lists of 16",
-                "one instrument, lists, throughput",
-            ),
-            Sharing::Lanes => ("a lane each", "a lane each, throughput"),
-            Sharing::LanesByLists => ("a lane each, lists of 16", "a lane each, lists, throughput"),
-            _ => ("one instrument", "one instrument, throughput"),
-        }
-    }
-
-    fn task<'a>(
-        self,
-        provider: &'a MeterProvider,
-        recorder: Recorder,
-        recordings: &'a [Measurement],
-    ) -> Task<'a> {
-        let instrument = self.number(recorder.number());
-        let caller = Caller {
-            provider,
-            recorder,
-            rounds: Rounds {
-                instrument,
-                series: SERIES,
-            },
-            keyed: Keyed {
-                instrument,
-                recordings,
-                are_listed: true,
-            },
-        };
-        match self {
-            Sharing::Beside => Task::RecordUntil(caller),
-            Sharing::OneByLists | Sharing::LanesByLists | Sharing::EachByLists => {
-                Task::RecordLists(caller)
-            }
-            _ => Task::Record(caller),
-        }
-    }
-
-    // How many recordings each thread makes, where so many are asked for.
-    fn made(self, events: u32) -> u32 {
-        match self {
-            Sharing::OneByLists | Sharing::LanesByLists | Sharing::EachByLists => {
-                (events / LISTED).max(1).saturating_mul(LISTED)
-            }
-            _ => events,
-        }
-    }
-}
+const COLLECTED: Sharing = Sharing {
+    name: "beside recordings on its instrument",
+    throughput: "",
+    has_own: false,
+    has_lanes: false,
+    how: How::Attributes,
+    is_collected: true,
+};
 
 /// Measures recordings of threads, and collections beside them.
-pub(crate) fn measure<R: Threads + Wait + Clock + Sync>(
+pub(crate) fn measure<R: Print + Threads + Wait + Clock + Sync + Abort>(
     rt: &R,
-    bench: &mut Bench,
+    alloc: Global,
     words: &Words<'_>,
-) -> anyhow::Result<()> {
-    bench.begin("threads, 3 attributes, 1000 series", "threads");
+    tally: &mut u64,
+) {
+    print_title(rt, "threads, 3 attributes, 1000 series", "threads");
     for sharing in SHARINGS {
-        measure_sharing(rt, bench, words, *sharing)?;
+        measure_sharing(rt, alloc, words, sharing, tally);
     }
-    let floor = look_up(rt, bench.alloc, SERIES)?;
-    bench.floor = floor.shared(u64::from(SERIES), 1);
-    bench.begin("collect_all of 1000 series, all read", "threads");
-    measure_collections(rt, bench)
-}
-
-fn measure_collections<R: Threads + Wait + Clock + Sync>(
-    rt: &R,
-    bench: &mut Bench,
-) -> anyhow::Result<()> {
+    let case = Case {
+        act: Act::LookUp,
+        kind: 0,
+        is_dense: true,
+        streams: 1,
+        size: SERIES,
+        events: 0,
+    };
+    let one = least(rt, alloc, &case);
+    let floor = Floor {
+        name: "a look-up by a set key",
+        each: scaled(each(one.nanoseconds, one.operations), u64::from(SERIES), 1),
+    };
+    print_title(rt, "collect_all of 1000 series, all read", "threads");
     for threads in BESIDE {
-        let spread = seats_measured(rt, bench.alloc, COLLECTIONS, Sharing::Beside, *threads)?;
-        let row = Row {
-            name: "beside recordings on its instrument",
-            size: u64::from(*threads),
-            operations: u64::from(COLLECTIONS),
-            unit: Unit::each("ns a collection"),
-        };
-        bench.tell_spread(&row, &spread);
+        measure_collections(rt, alloc, floor, *threads, tally);
     }
-    Ok(())
 }
 
-// What so many threads did at once.
+fn row_of(name: &'static str, unit: &'static str, threads: u32) -> Row {
+    Row {
+        name,
+        size: u64::from(threads),
+        unit: Unit::each(unit, unit),
+        operations: 0,
+    }
+}
+
+fn measure_collections<R: Print + Threads + Wait + Clock + Sync + Abort>(
+    rt: &R,
+    alloc: Global,
+    floor: Floor,
+    threads: u32,
+    tally: &mut u64,
+) {
+    let range = seats_measured(rt, alloc, COLLECTIONS, &COLLECTED, threads, tally);
+    let range = range.map(|all| each(all, u64::from(COLLECTIONS)));
+    let row = row_of(COLLECTED.name, "ns a collection", threads);
+    print_spread(rt, &row, floor, range);
+}
+
+// What so many threads did at once: the thousandths of a recording, of which the middle one counts, and those of an
+// addition under a bare lock.
 #[derive(Clone, Copy)]
 struct Figures {
-    threads: u32,
-    // How many recordings each made, and how long that took.
-    made: u64,
-    recording: Spread,
-    // The thousandths of what an addition under a bare lock took.
+    recording: [u64; 3],
     lock: u64,
 }
 
-impl Figures {
-    // The thousandths of what a recording took.
-    fn each(&self) -> u64 {
-        each(self.recording.median, self.made)
-    }
-}
-
-fn measure_sharing<R: Threads + Wait + Clock + Sync>(
+fn measure_sharing<R: Print + Threads + Wait + Clock + Sync + Abort>(
     rt: &R,
-    bench: &mut Bench,
+    alloc: Global,
     words: &Words<'_>,
-    sharing: Sharing,
-) -> anyhow::Result<()> {
-    let one = figures_of(rt, bench, words.events, sharing, 1)?;
-    for threads in words.threads_or(THREADS) {
+    sharing: &Sharing,
+    tally: &mut u64,
+) {
+    let events = words.events();
+    let one = figures_of(rt, alloc, events, sharing, 1, tally);
+    for threads in words.sizes_or(THREADS, SOME) {
         let several = match *threads {
             1 => one,
-            threads => figures_of(rt, bench, words.events, sharing, threads)?,
+            threads => figures_of(rt, alloc, events, sharing, threads, tally),
         };
-        add_figures(bench, sharing, &one, &several);
+        print_figures(rt, sharing, &one, &several, *threads);
     }
-    Ok(())
 }
 
 // A line of the time of a recording, and one of how many recordings are made beside one thread.
-fn add_figures(bench: &mut Bench, sharing: Sharing, one: &Figures, several: &Figures) {
-    let (time, throughput) = sharing.names();
-    let row = Row {
-        name: time,
-        size: u64::from(several.threads),
-        operations: several.made,
-        unit: Unit::each("ns a recording of each thread"),
-    };
-    bench.floor = Floor {
+fn print_figures<R: Print + Abort>(
+    rt: &R,
+    sharing: &Sharing,
+    one: &Figures,
+    several: &Figures,
+    threads: u32,
+) {
+    let floor = Floor {
         name: LOCK,
         each: several.lock,
     };
-    bench.tell_spread(&row, &several.recording);
-    let row = Row {
-        name: throughput,
-        unit: Unit::each("times one thread"),
-        operations: 1000,
-        ..row
-    };
-    bench.floor = Floor {
+    let row = row_of(sharing.name, "ns a recording of each thread", threads);
+    print_spread(rt, &row, floor, several.recording);
+    let floor = Floor {
         name: LOCK,
-        each: times(one.lock, several.lock, several.threads),
+        each: times(one.lock, several.lock, threads),
     };
-    bench.add(&row, times(one.each(), several.each(), several.threads));
+    let row = row_of(sharing.throughput, "times one thread", threads);
+    let times = times(one.recording[1], several.recording[1], threads);
+    print_row(rt, &row, floor, times);
 }
 
 // How many times as much so many threads do as one, in thousandths, by what one operation takes each of them.
 fn times(one: u64, several: u64, threads: u32) -> u64 {
-    let all = u128::from(one)
-        .saturating_mul(u128::from(threads))
-        .saturating_mul(1000);
-    let thousandths = all / u128::from(several.max(1));
-    u64::try_from(thousandths).unwrap_or(u64::MAX)
+    scaled(one, u64::from(threads) * 1000, several)
 }
 
-fn figures_of<R: Threads + Wait + Clock + Sync>(
+fn figures_of<R: Threads + Wait + Clock + Sync + Abort>(
     rt: &R,
-    bench: &mut Bench,
+    alloc: Global,
     events: u32,
-    sharing: Sharing,
+    sharing: &Sharing,
     threads: u32,
-) -> anyhow::Result<Figures> {
-    let more = events.saturating_mul(MORE);
-    let recording = seats_measured(rt, bench.alloc, events, sharing, threads)?;
-    let lock = lock_measured(rt, bench.alloc, more, sharing, threads)?;
-    bench.count(lock.number);
-    Ok(Figures {
-        threads,
-        made: u64::from(sharing.made(events)),
-        recording,
-        lock: each(lock.median, u64::from(more)),
-    })
+    tally: &mut u64,
+) -> Figures {
+    let made = match sharing.how {
+        How::Attributes => events,
+        _ => (events / LISTED).max(1).saturating_mul(LISTED),
+    };
+    let recording = seats_measured(rt, alloc, events, sharing, threads, tally);
+    let additions = events.saturating_mul(MORE);
+    let lock = lock_measured(rt, alloc, additions, sharing, threads, tally);
+    Figures {
+        recording: recording.map(|all| each(all, u64::from(made))),
+        lock: each(lock[1], u64::from(additions)),
+    }
 }
 
 // So many recordings, or collections, beside so many threads, once each series of the first instrument is held.
-fn seats_measured<R: Threads + Wait + Clock + Sync>(
+fn seats_measured<R: Threads + Wait + Clock + Sync + Abort>(
     rt: &R,
     alloc: Global,
     events: u32,
-    sharing: Sharing,
+    sharing: &Sharing,
     threads: u32,
-) -> anyhow::Result<Spread> {
-    let mut seats = seats_of(rt, alloc, threads.saturating_add(1), sharing)?;
-    let rounds = Rounds {
-        instrument: 0,
-        series: SERIES,
-    };
-    record_by_last(rt, &mut seats, rounds, 1)?;
-    let recordings = recordings(alloc, LISTED, SERIES)?;
-    let mut runners = runners_of(
-        alloc,
-        &seats.provider,
-        &mut seats.recorders,
-        &mut seats.collectors,
-        &recordings,
-        sharing,
-        threads,
-    )?;
-    times_together(rt, alloc, &mut runners, events)
-}
-
-// A provider with so many recorders and instruments.
-fn seats_of<R: Wait>(
-    rt: &R,
-    alloc: Global,
-    count: u32,
-    sharing: Sharing,
-) -> anyhow::Result<Seats<Marked>> {
-    let shape = Shape {
-        instruments: count,
-        kind: 0,
-        keys: WIDE_KEYS,
-        values: values_for(SERIES),
-        recorders: count,
-        budget: BUDGET,
-    };
-    let plan = plan_of(alloc, &shape, 1)?;
-    started_in_lanes(rt, alloc, plan, sharing.lanes(count))
-}
-
-// The last of the recorders, and a collector where all are collected.
-fn runners_of<'a>(
-    alloc: Global,
-    provider: &'a MeterProvider,
-    recorders: &mut Vec<Recorder>,
-    collectors: &mut Vec<Collector>,
-    recordings: &'a [Measurement],
-    sharing: Sharing,
-    threads: u32,
-) -> Result<Vec<Runner<'a>>, AllocError> {
+    tally: &mut u64,
+) -> [u64; 3] {
+    let recordings = recordings(rt, alloc, LISTED, SERIES);
+    let mut seats = held_seats(rt, alloc, sharing, threads);
+    let provider = &seats.provider;
     let mut runners = Vec::new(alloc);
     for _ in 0..threads {
-        if let Some(recorder) = recorders.pop() {
-            runners.push(Runner::new(sharing.task(provider, recorder, recordings)))?;
-        }
-    }
-    if let (Sharing::Beside, Some(collector)) = (sharing, collectors.pop()) {
-        let collections = Collections {
-            provider,
-            collector,
+        let recorder = seats.recorders.pop().or_fail(rt);
+        let calls = calls_of(sharing, recorder.number(), &recordings);
+        let task = if sharing.is_collected {
+            Task::RecordUntil(provider, recorder, calls)
+        } else {
+            Task::Record(provider, recorder, calls)
         };
-        runners.push(Runner::new(Task::Collect(collections)))?;
+        runners.push(Runner::new(task)).ok().or_fail(rt);
     }
-    Ok(runners)
+    if sharing.is_collected {
+        let task = Task::Collect(provider, seats.collectors.pop().or_fail(rt));
+        runners.push(Runner::new(task)).ok().or_fail(rt);
+    }
+    times_together(rt, alloc, runners, events, tally)
 }
 
-fn lock_measured<R: Threads + Wait + Clock + Sync>(
+fn calls_of<'a>(sharing: &Sharing, recorder: u32, recordings: &'a [Measurement]) -> Calls<'a> {
+    Calls {
+        how: sharing.how,
+        instrument: if sharing.has_own { recorder } else { 0 },
+        series: SERIES,
+        recordings,
+    }
+}
+
+// A provider with as many recorders and instruments, and one more, whose last recorder has recorded each series.
+fn held_seats<R: Wait + Abort>(
+    rt: &R,
+    alloc: Global,
+    sharing: &Sharing,
+    threads: u32,
+) -> Seats<Marked> {
+    let count = threads.saturating_add(1);
+    let plan = shaped_plan(rt, alloc, &counters(count, 3, values_for(SERIES), count), 1);
+    let lanes = if sharing.has_lanes { count } else { 1 };
+    let mut seats: Seats<Marked> = seats_of(rt, alloc, plan, lanes);
+    let recorder = seats.recorders.last_mut().or_fail(rt);
+    let calls = calls_of(&COLLECTED, 0, &[]);
+    calls.repeat(rt, &seats.provider, recorder, 1);
+    seats
+}
+
+// Additions of so many threads, each under a lock of its own or all under one.
+fn lock_measured<R: Threads + Wait + Clock + Sync + Abort>(
     rt: &R,
     alloc: Global,
     events: u32,
-    sharing: Sharing,
+    sharing: &Sharing,
     threads: u32,
-) -> anyhow::Result<Spread> {
-    let sums = sums(alloc, threads)?;
-    let mut runners = adders_of(alloc, &sums, threads, sharing)?;
-    times_together(rt, alloc, &mut runners, events)
-}
-
-// So many sums, each behind a lock.
-fn sums(alloc: Global, count: u32) -> Result<Vec<CachePadded<Mutex<u64>>>, AllocError> {
+    tally: &mut u64,
+) -> [u64; 3] {
     let mut sums = Vec::new(alloc);
-    for _ in 0..count {
-        sums.push(CachePadded::new(Mutex::new(0)))?;
+    for _ in 0..threads {
+        let sum: CachePadded<Mutex<u64>> = CachePadded::new(Mutex::new(0));
+        sums.push(sum).ok().or_fail(rt);
     }
-    Ok(sums)
+    let runners = adders_of(rt, alloc, &sums, sharing.has_own);
+    times_together(rt, alloc, runners, events, tally)
 }
 
-fn adders_of<'a>(
+fn adders_of<'a, R: Abort>(
+    rt: &R,
     alloc: Global,
     sums: &'a [CachePadded<Mutex<u64>>],
-    threads: u32,
-    sharing: Sharing,
-) -> Result<Vec<Runner<'a>>, AllocError> {
+    has_own: bool,
+) -> Vec<Runner<'a>> {
     let mut runners = Vec::new(alloc);
-    for thread in 0..threads {
-        if let Some(sum) = sums.get(sharing.number(thread) as usize) {
-            runners.push(Runner::new(Task::Add(sum)))?;
-        }
+    for thread in 0..sums.len() {
+        let sum = sums.get(if has_own { thread } else { 0 }).or_fail(rt);
+        runners.push(Runner::new(Task::Add(sum))).ok().or_fail(rt);
     }
-    Ok(runners)
+    runners
 }

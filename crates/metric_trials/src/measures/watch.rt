@@ -1,63 +1,79 @@
-//! How long work takes.
+//! How long work takes, and what came of it.
+use crate::asserted::OrFail;
+use std::process::Abort;
 use std::time::{Clock, Instant};
-
-/// Takes the time of work that is done once: from its beginning, or from where it starts the watch, to its end, or to
-/// where it stops the watch. So what has to be made ready, and what is left over, is not measured.
-#[derive(Drop)]
-pub(crate) struct Watch {
-    start: Option<Instant>,
-    took: Option<u64>,
-}
-
-impl Watch {
-    /// Started now.
-    pub(crate) fn new<R: Clock>(rt: &R) -> Watch {
-        Watch {
-            start: Instant::now(rt).ok(),
-            took: None,
-        }
-    }
-
-    /// Starts once more: what was before is not measured.
-    pub(crate) fn start<R: Clock>(&mut self, rt: &R) {
-        self.start = Instant::now(rt).ok();
-    }
-
-    /// Stops: what comes is not measured.
-    pub(crate) fn stop<R: Clock>(&mut self, rt: &R) {
-        self.took = nanoseconds_since(rt, self.start);
-    }
-
-    /// The nanoseconds from start to stop, or to now; nothing where the clock failed.
-    pub(crate) fn took<R: Clock>(&self, rt: &R) -> Option<u64> {
-        match self.took {
-            Some(nanoseconds) => Some(nanoseconds),
-            None => nanoseconds_since(rt, self.start),
-        }
-    }
-}
-
-fn nanoseconds_since<R: Clock>(rt: &R, start: Option<Instant>) -> Option<u64> {
-    let took = start?.elapsed(rt).ok()?;
-    u64::try_from(took.as_nanos()).ok()
-}
-
-/// What came of work that was measured several times.
-#[derive(Clone, Copy)]
-pub(crate) struct Spread {
-    /// The least, the middle and the greatest of the times, in nanoseconds.
-    pub least: u64,
-    pub median: u64,
-    pub most: u64,
-    /// A number that depends on all of the work.
-    pub number: u64,
-}
 
 /// What came of measured work.
 #[derive(Clone, Copy)]
 pub(crate) struct Measured {
-    /// The least time, in nanoseconds.
+    /// The time, in nanoseconds.
     pub nanoseconds: u64,
     /// A number that depends on all of the work, so that no part of it can be left out.
     pub number: u64,
+    /// The size that its line tells.
+    pub size: u64,
+    /// How many operations it has, and how many of those that stand beside it.
+    pub operations: u64,
+    pub floors: u64,
+}
+
+/// Takes the time of work that is done once: from its beginning, or from where it starts the watch, to its end, or to
+/// where it stops the watch. So what has to be made ready, and what is left over, is not measured.
+#[derive(Clone, Copy)]
+pub(crate) struct Watch {
+    start: Instant,
+    told: Measured,
+}
+
+impl Watch {
+    /// Started now, for work on a size.
+    pub(crate) fn new<R: Clock + Abort>(rt: &R, size: u32) -> Watch {
+        Watch {
+            start: Instant::now(rt).or_fail(rt),
+            told: Measured {
+                nanoseconds: 0,
+                number: 0,
+                size: u64::from(size),
+                operations: 1,
+                floors: 1,
+            },
+        }
+    }
+
+    /// Tells how many operations the work has, and how many of those that stand beside it.
+    pub(crate) fn count(&mut self, operations: u64, floors: u64) {
+        self.told.operations = operations;
+        self.told.floors = floors;
+    }
+
+    /// The same of work whose size is the number of its operations.
+    pub(crate) fn count_sized(&mut self, operations: u64, floors: u64) {
+        self.told.size = operations;
+        self.count(operations, floors);
+    }
+
+    /// Tells how many operations stand beside it.
+    pub(crate) fn count_floors(&mut self, floors: u64) {
+        self.told.floors = floors;
+    }
+
+    /// Starts once more: what was before is not measured.
+    pub(crate) fn start<R: Clock + Abort>(&mut self, rt: &R) {
+        self.start = Instant::now(rt).or_fail(rt);
+    }
+
+    /// Stops: what comes is not measured.
+    pub(crate) fn stop<R: Clock + Abort>(&mut self, rt: &R) {
+        let took = self.start.elapsed(rt).or_fail(rt);
+        self.told.nanoseconds = u64::try_from(took.as_nanos()).unwrap_or(u64::MAX).max(1);
+    }
+
+    /// What came of the work, by its number.
+    pub(crate) fn told<R: Clock + Abort>(mut self, rt: &R, number: u64) -> Measured {
+        if self.told.nanoseconds == 0 {
+            self.stop(rt);
+        }
+        self.told.number = number;
+        self.told
+    }
 }

@@ -1,24 +1,45 @@
 //! The words of the command line.
-use crate::measures::inputs::{MOST_EVENTS, MOST_SETS, MOST_THREADS};
-use clap::builder::ValueParser;
-use clap::{Arg, ArgAction, ArgMatches, Command, Error};
-use std::alloc::{AllocError, Global};
 use std::slice;
 
 /// What is measured, and how much of it.
 #[derive(Clone, Copy)]
 pub(crate) struct Words<'a> {
-    /// What is measured, one of [`PARTS`].
     part: &'a str,
-    /// How many series there are, where one number is asked for.
-    series: Option<u32>,
-    /// How many attributes a recording has, where one number is asked for.
-    attributes: Option<u32>,
-    /// How many threads record, where one number is asked for.
-    threads: Option<u32>,
-    /// How often an operation is repeated for one measurement.
-    pub events: u32,
+    // The sizes that are asked for, in the order of their flags.
+    asked: [Option<u32>; 4],
 }
+
+/// The places of the flags.
+pub(crate) const SERIES: usize = 0;
+
+pub(crate) const ATTRIBUTES: usize = 1;
+
+pub(crate) const THREADS: usize = 2;
+
+const EVENTS: usize = 3;
+
+/// The place of a size that no flag sets.
+pub(crate) const NONE: usize = 4;
+
+// The flags, and the least and the most of what each sets. With the recordings that come before, no recorder records
+// more often than the highest limit of series.
+const FLAGS: [(&str, u32, u32); 4] = [
+    ("--series", 1, 262_144),
+    ("--attributes", 0, 8),
+    ("--threads", 1, 64),
+    ("--events", 1, 700_000),
+];
+
+// The word for all parts.
+const ALL: &str = "all";
+
+// The parts, as words.
+const PARTS: &[&str] = &[
+    ALL, "record", "collect", "encode", "threads", "check", "replay", "audit", "memory",
+];
+
+// How often an operation is repeated, where no word says it.
+const MANY: u32 = 100_000;
 
 impl Words<'_> {
     /// Whether a part is measured.
@@ -26,82 +47,47 @@ impl Words<'_> {
         self.part == ALL || self.part == part
     }
 
-    /// The numbers of series that are measured: the one that is asked for, or these.
-    pub(crate) fn series_or<'a>(&'a self, sizes: &'a [u32]) -> &'a [u32] {
-        one_or(&self.series, sizes)
+    /// The sizes that are measured: the one that is asked for, or these.
+    pub(crate) fn sizes_or<'a>(&'a self, place: usize, sizes: &'a [u32]) -> &'a [u32] {
+        match self.asked.get(place) {
+            Some(Some(asked)) => slice::from_ref(asked),
+            _ => sizes,
+        }
     }
 
-    /// The numbers of attributes that are measured: the one that is asked for, or these.
-    pub(crate) fn attributes_or<'a>(&'a self, sizes: &'a [u32]) -> &'a [u32] {
-        one_or(&self.attributes, sizes)
-    }
-
-    /// The numbers of threads that are measured: the one that is asked for, or these.
-    pub(crate) fn threads_or<'a>(&'a self, sizes: &'a [u32]) -> &'a [u32] {
-        one_or(&self.threads, sizes)
+    /// How often an operation is repeated for one measurement.
+    pub(crate) fn events(&self) -> u32 {
+        self.asked[EVENTS].unwrap_or(MANY)
     }
 }
 
-fn one_or<'a>(one: &'a Option<u32>, sizes: &'a [u32]) -> &'a [u32] {
-    match one {
-        Some(size) => slice::from_ref(size),
-        None => sizes,
+/// What the words ask for, where they are right.
+pub(crate) fn words_of(owned: &[String]) -> Option<Words<'_>> {
+    let (part, flags) = match owned {
+        [part, flags @ ..] if !part.as_str().starts_with("--") => (part.as_str(), flags),
+        _ => (ALL, owned),
+    };
+    let mut asked = [None; 4];
+    for pair in flags.chunks(2) {
+        let (at, number) = flag_of(pair)?;
+        if let Some(place) = asked.get_mut(at) {
+            *place = Some(number);
+        }
     }
+    let is_part = PARTS.iter().any(|one| *one == part);
+    is_part.then_some(Words { part, asked })
 }
 
-// The word for all parts.
-const ALL: &str = "all";
-
-// The parts, as words.
-const PARTS: &[&str] = &[
-    ALL,
-    "record",
-    "histogram",
-    "collect",
-    "encode",
-    "threads",
-    "check",
-    "replay",
-    "audit",
-    "memory",
-];
-
-// How often an operation is repeated, where no word says it.
-const EVENTS: u32 = 100_000;
-
-/// What the words ask for. The first of them stands for the program.
-pub(crate) fn words_of<'a>(alloc: Global, owned: &'a [String]) -> Result<Words<'a>, Error> {
-    let matches = command(alloc)?.try_get_matches_from(owned)?;
-    Ok(words_in(&matches))
-}
-
-fn words_in<'a>(matches: &ArgMatches<'a>) -> Words<'a> {
-    Words {
-        part: matches.get_str("part").unwrap_or(ALL),
-        series: matches.get_one::<u32>("series"),
-        attributes: matches.get_one::<u32>("attributes"),
-        threads: matches.get_one::<u32>("threads"),
-        events: matches.get_one::<u32>("events").unwrap_or(EVENTS),
+// The place of a flag, and the number behind it.
+fn flag_of(pair: &[String]) -> Option<(usize, u32)> {
+    let [name, number] = pair else {
+        return None;
+    };
+    let number = number.as_str().parse::<u32>().ok()?;
+    for (at, (flag, least, most)) in FLAGS.iter().enumerate() {
+        if *flag == name.as_str() && *least <= number && number <= *most {
+            return Some((at, number));
+        }
     }
-}
-
-fn command<'a>(alloc: Global) -> Result<Command<'a>, AllocError> {
-    let part = Arg::new(alloc, "part")
-        .action(ArgAction::Set)
-        .value_parser(PARTS);
-    let arguments = vec![in alloc;
-        part,
-        number(alloc, "series", 1, u64::from(MOST_SETS)),
-        number(alloc, "attributes", 0, 8),
-        number(alloc, "threads", 1, u64::from(MOST_THREADS)),
-        number(alloc, "events", 1, u64::from(MOST_EVENTS)),
-    ]?;
-    Command::new(alloc, "metric_trials measure").args(arguments)
-}
-
-// A word with a number in a range.
-fn number<'a>(alloc: Global, name: &'a str, least: u64, most: u64) -> Arg<'a> {
-    Arg::new(alloc, name)
-        .long(name)
-        .value_parser(ValueParser::unsigned(least, most))
+    None
 }

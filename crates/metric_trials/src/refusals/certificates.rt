@@ -1,99 +1,83 @@
 //! The calls that lead to a plan.
+use crate::asserted::OrFail;
 use crate::mark::mark;
-use crate::refusals::answers::{Answers, Told};
+use crate::refusals::answers::{Answers, push, push_line};
 use crate::refusals::inputs::Data;
 use crate::refusals::prepared::{Declared, certificate_of, declared_of};
-use metric_sdk::{
-    Catalogue, CertFault, Certificate, CheckFault, Config, MakeFault, Plan, check, make,
-};
+use metric_sdk::{Catalogue, Certificate, CheckFault, Config, Plan, check, make};
 use std::alloc::{AllocError, Global};
+use std::fmt::Display;
+use std::process::Abort;
 
 // A plan, or what was handed in and the fault.
 type Checked = Result<Plan, (Catalogue, Config, CheckFault)>;
 
 /// Makes a certificate.
-pub(crate) fn answer_make(answers: &mut Answers, alloc: Global, data: &Data) -> anyhow::Result<()> {
-    let declared = declared_of(alloc, data)?;
+pub(crate) fn answer_make<R: Abort>(answers: &mut Answers, rt: &R, alloc: Global, data: &Data) {
+    let declared = declared_of(rt, alloc, data);
     mark(alloc);
     let first = make(alloc, &declared.catalogue, &declared.config);
     mark(alloc);
-    push_made(&mut answers.first, alloc, first);
+    push_certificate(rt, &mut answers.first, alloc, first);
     let second = make(alloc, &declared.catalogue, &declared.config);
-    push_made(&mut answers.second, alloc, second);
-    Ok(())
+    push_certificate(rt, &mut answers.second, alloc, second);
 }
 
-fn push_made(out: &mut Told, alloc: Global, answer: Result<Certificate, MakeFault>) {
+/// Reads a certificate.
+pub(crate) fn answer_read<R: Abort>(answers: &mut Answers, rt: &R, alloc: Global, data: &Data) {
+    let text = certificate_of(rt, alloc, data).write(alloc).or_fail(rt);
+    mark(alloc);
+    let first = Certificate::read(alloc, &text);
+    mark(alloc);
+    push_certificate(rt, &mut answers.first, alloc, first);
+    let second = Certificate::read(alloc, &text);
+    push_certificate(rt, &mut answers.second, alloc, second);
+}
+
+fn push_certificate<R: Abort, E: Display + Drop>(
+    rt: &R,
+    out: &mut String,
+    alloc: Global,
+    answer: Result<Certificate, E>,
+) {
     match answer {
-        Ok(certificate) => push_written(out, certificate.write(alloc)),
-        Err(fault) => out.push_line("fault", &fault),
+        Ok(certificate) => push_written(rt, out, certificate.write(alloc)),
+        Err(fault) => push_line(rt, out, "fault", &fault),
     }
 }
 
 /// Writes a certificate.
-pub(crate) fn answer_write(
-    answers: &mut Answers,
-    alloc: Global,
-    data: &Data,
-) -> anyhow::Result<()> {
-    let certificate = certificate_of(alloc, data)?;
+pub(crate) fn answer_write<R: Abort>(answers: &mut Answers, rt: &R, alloc: Global, data: &Data) {
+    let certificate = certificate_of(rt, alloc, data);
     mark(alloc);
     let first = certificate.write(alloc);
     mark(alloc);
-    push_written(&mut answers.first, first);
-    push_written(&mut answers.second, certificate.write(alloc));
-    Ok(())
+    push_written(rt, &mut answers.first, first);
+    push_written(rt, &mut answers.second, certificate.write(alloc));
 }
 
-fn push_written(out: &mut Told, answer: Result<String, AllocError>) {
+fn push_written<R: Abort>(rt: &R, out: &mut String, answer: Result<String, AllocError>) {
     match answer {
-        Ok(text) => out.push(&text),
-        Err(_) => out.push("fault memory\n"),
-    }
-}
-
-/// Reads a certificate.
-pub(crate) fn answer_read(answers: &mut Answers, alloc: Global, data: &Data) -> anyhow::Result<()> {
-    let text = certificate_of(alloc, data)?.write(alloc)?;
-    mark(alloc);
-    let first = Certificate::read(alloc, &text);
-    mark(alloc);
-    push_read(&mut answers.first, alloc, first);
-    push_read(&mut answers.second, alloc, Certificate::read(alloc, &text));
-    Ok(())
-}
-
-fn push_read(out: &mut Told, alloc: Global, answer: Result<Certificate, CertFault>) {
-    match answer {
-        Ok(certificate) => push_written(out, certificate.write(alloc)),
-        Err(fault) => out.push_line("fault", &fault),
+        Ok(text) => push(rt, out, &text),
+        Err(_) => push(rt, out, "fault memory\n"),
     }
 }
 
 /// Checks a certificate.
-pub(crate) fn answer_check(
-    answers: &mut Answers,
-    alloc: Global,
-    data: &Data,
-) -> anyhow::Result<()> {
-    let certificate = certificate_of(alloc, data)?;
-    let Declared { catalogue, config } = declared_of(alloc, data)?;
+pub(crate) fn answer_check<R: Abort>(answers: &mut Answers, rt: &R, alloc: Global, data: &Data) {
+    let certificate = certificate_of(rt, alloc, data);
+    let declared = declared_of(rt, alloc, data);
     mark(alloc);
-    let first = checked(alloc, catalogue, config, &certificate);
+    let first = checked(alloc, declared, &certificate);
     mark(alloc);
-    if let Some(back) = push_plan(&mut answers.first, first) {
-        let second = checked(alloc, back.catalogue, back.config, &certificate);
-        push_plan(&mut answers.second, second);
+    if let Some(back) = push_plan(rt, &mut answers.first, first) {
+        let second = checked(alloc, back, &certificate);
+        push_plan(rt, &mut answers.second, second);
     }
-    Ok(())
 }
 
-fn checked(
-    alloc: Global,
-    catalogue: Catalogue,
-    config: Config,
-    certificate: &Certificate,
-) -> Checked {
+fn checked(alloc: Global, declared: Declared, certificate: &Certificate) -> Checked {
+    let Declared { catalogue, config } = declared;
     match check(alloc, catalogue, config, certificate) {
         Ok(plan) => Ok(plan),
         Err((catalogue, config, refused)) => Err((catalogue, config, refused.fault)),
@@ -101,33 +85,27 @@ fn checked(
 }
 
 /// Tries a catalogue and a config without a certificate.
-pub(crate) fn answer_trial(
-    answers: &mut Answers,
-    alloc: Global,
-    data: &Data,
-) -> anyhow::Result<()> {
-    let Declared { catalogue, config } = declared_of(alloc, data)?;
+pub(crate) fn answer_trial<R: Abort>(answers: &mut Answers, rt: &R, alloc: Global, data: &Data) {
+    let Declared { catalogue, config } = declared_of(rt, alloc, data);
     mark(alloc);
     let first = Plan::trial(alloc, catalogue, config);
     mark(alloc);
-    if let Some(back) = push_plan(&mut answers.first, first) {
+    if let Some(back) = push_plan(rt, &mut answers.first, first) {
         let second = Plan::trial(alloc, back.catalogue, back.config);
-        push_plan(&mut answers.second, second);
+        push_plan(rt, &mut answers.second, second);
     }
-    Ok(())
 }
 
 // What a plan has, or else what was handed back.
-fn push_plan(out: &mut Told, answer: Checked) -> Option<Declared> {
+fn push_plan<R: Abort>(rt: &R, out: &mut String, answer: Checked) -> Option<Declared> {
     match answer {
         Ok(plan) => {
             let (count, certified) = (plan.streams().len(), plan.is_certified());
-            let added = writeln!(out.text, "plan of {count} streams, certified: {certified}");
-            out.note(added);
+            writeln!(out, "plan of {count} streams, certified: {certified}").or_fail(rt);
             None
         }
         Err((catalogue, config, fault)) => {
-            out.push_line("fault", &fault);
+            push_line(rt, out, "fault", &fault);
             Some(Declared { catalogue, config })
         }
     }

@@ -1,131 +1,113 @@
 //! Collections by a reader's seat.
+use crate::asserted::OrFail;
 use crate::mark::mark;
-use crate::refusals::answers::{Answers, Told};
-use crate::refusals::prepared::events_but;
+use crate::refusals::answers::Answers;
+use crate::refusals::playing::{data_seats, play, played, played_seats, push_state};
+use crate::refusals::prepared::all_events;
 use crate::refusals::replies::{push_batches, push_reply, reply_with};
-use crate::refusals::seats::{collect, played, push_state, seats_of};
 use crate::refusals::words::Words;
 use crate::seats::Seats;
-use anyhow::{Context, bail};
 use metric_history::{Book, Event};
-use metric_sdk::{AllFault, Batch, Collector, NoGate, Plan, Provider};
-use std::alloc::{AllocError, Global};
+use metric_sdk::{AllFault, Collector, NoGate, Plan, Provider};
+use std::alloc::Global;
+use std::process::Abort;
 use std::sync::Wait;
 
 // When all instruments are collected, later than any event of a script.
 const LATE: u64 = 500_000;
 
 /// Makes the last collection of the script after what stands before it.
-pub(crate) fn answer_collect<R: Wait, B: Book>(
+pub(crate) fn answer_collect<R: Wait + Abort, B: Book>(
     answers: &mut Answers,
     rt: &R,
     alloc: Global,
     words: &Words,
-) -> anyhow::Result<()> {
-    let events = events_but(alloc, words.data, None)?;
-    let events = events.as_slice();
-    let at = last_collection(events);
-    let event = events.get(at).context("no collection")?;
-    let mut seats: Seats<B> = seats_of(rt, alloc, words.data)?;
-    played(rt, alloc, &mut seats, &events[..at.min(events.len())])?;
-    collect_last(answers, rt, alloc, words, &mut seats, event)
-}
-
-fn collect_last<R: Wait, B: Book>(
-    answers: &mut Answers,
-    rt: &R,
-    alloc: Global,
-    words: &Words,
-    seats: &mut Seats<B>,
-    event: &Event,
-) -> anyhow::Result<()> {
-    let Event::Collect {
-        reader,
-        instrument,
-        now,
-    } = event
-    else {
-        bail!("no collection");
-    };
+) {
+    let events = all_events(rt, alloc, words.data);
+    let (before, event) = last_collection(events.as_slice());
+    let event = event.or_fail(rt);
+    let mut seats: Seats<B> = data_seats(rt, alloc, words.data);
+    played(rt, alloc, &mut seats, before);
     mark(alloc);
-    let first = collect(rt, alloc, seats, *reader, *instrument, *now);
+    let first = play(rt, alloc, &mut seats, event);
     mark(alloc);
-    push_reply(&mut answers.first, alloc, seats.provider.plan(), &first?);
+    push_reply(rt, &mut answers.first, alloc, seats.provider.plan(), &first);
     if !words.is_once {
-        let second = collect(rt, alloc, seats, *reader, *instrument, *now)?;
-        push_reply(&mut answers.second, alloc, seats.provider.plan(), &second);
+        let second = play(rt, alloc, &mut seats, event);
+        push_reply(
+            rt,
+            &mut answers.second,
+            alloc,
+            seats.provider.plan(),
+            &second,
+        );
     }
-    push_state(&mut answers.state, rt, alloc, seats);
-    Ok(())
+    push_state(rt, &mut answers.state, alloc, &mut seats);
 }
 
-// The place of the last collection, or the number of events.
-fn last_collection(events: &[Event]) -> usize {
-    let mut last = events.len();
+// What stands before the last collection, and that.
+fn last_collection(events: &[Event]) -> (&[Event], Option<&Event>) {
+    let mut found: (&[Event], Option<&Event>) = (events, None);
     for (place, event) in events.iter().enumerate() {
         if matches!(event, Event::Collect { .. }) {
-            last = place;
+            found = (&events[..place.min(events.len())], Some(event));
         }
     }
-    last
-}
-
-// The seats of a data that have played its script, and that of the last reader.
-fn seats_with_last<R: Wait, B: Book>(
-    rt: &R,
-    alloc: Global,
-    words: &Words,
-) -> anyhow::Result<(Seats<B>, Collector)> {
-    let events = events_but(alloc, words.data, None)?;
-    let mut seats: Seats<B> = seats_of(rt, alloc, words.data)?;
-    played(rt, alloc, &mut seats, events.as_slice())?;
-    let seat = seats.collectors.pop().context("no reader")?;
-    Ok((seats, seat))
+    found
 }
 
 /// Collects all instruments by the last reader after the script; those that are left are then collected one by one.
-pub(crate) fn answer_collect_all<R: Wait, B: Book>(
+pub(crate) fn answer_collect_all<R: Wait + Abort, B: Book>(
     answers: &mut Answers,
     rt: &R,
     alloc: Global,
     words: &Words,
-) -> anyhow::Result<()> {
-    let (mut seats, mut seat) = seats_with_last::<R, B>(rt, alloc, words)?;
+) {
+    let mut seats: Seats<B> = played_seats(rt, alloc, words.data);
+    let mut seat = seats.collectors.pop().or_fail(rt);
     mark(alloc);
     let first = seat.collect_all(rt, alloc, &seats.provider, LATE);
     mark(alloc);
-    let done = push_all(&mut answers.first, alloc, seats.provider.plan(), first);
+    let plan = seats.provider.plan();
+    let done = match first {
+        Ok(batches) => {
+            push_batches(rt, &mut answers.first, alloc, plan, &batches);
+            batches.len()
+        }
+        Err(fault) => push_fault(rt, &mut answers.first, alloc, plan, &fault),
+    };
     push_left(
-        &mut answers.second,
         rt,
+        &mut answers.second,
         alloc,
         &seats.provider,
         &mut seat,
         done,
     );
-    seats.collectors.push(seat).map_err(AllocError::from)?;
-    push_state(&mut answers.state, rt, alloc, &mut seats);
-    Ok(())
+    seats.collectors.push(seat).ok().or_fail(rt);
+    push_state(rt, &mut answers.state, alloc, &mut seats);
 }
 
 /// Ends the last reader after the script; where it is refused, what is left is collected one by one.
-pub(crate) fn answer_shutdown<R: Wait, B: Book>(
+pub(crate) fn answer_shutdown<R: Wait + Abort, B: Book>(
     answers: &mut Answers,
     rt: &R,
     alloc: Global,
     words: &Words,
-) -> anyhow::Result<()> {
-    let (mut seats, seat) = seats_with_last::<R, B>(rt, alloc, words)?;
+) {
+    let mut seats: Seats<B> = played_seats(rt, alloc, words.data);
+    let seat = seats.collectors.pop().or_fail(rt);
     mark(alloc);
     let first = seat.shutdown(rt, alloc, &seats.provider, LATE);
     mark(alloc);
+    let plan = seats.provider.plan();
     match first {
-        Ok(batches) => push_batches(&mut answers.first, alloc, seats.provider.plan(), &batches),
+        Ok(batches) => push_batches(rt, &mut answers.first, alloc, plan, &batches),
         Err((mut seat, fault)) => {
-            let done = push_fault(&mut answers.first, alloc, seats.provider.plan(), &fault);
+            let done = push_fault(rt, &mut answers.first, alloc, plan, &fault);
             push_left(
-                &mut answers.second,
                 rt,
+                &mut answers.second,
                 alloc,
                 &seats.provider,
                 &mut seat,
@@ -133,50 +115,35 @@ pub(crate) fn answer_shutdown<R: Wait, B: Book>(
             );
         }
     }
-    push_state(&mut answers.state, rt, alloc, &mut seats);
-    Ok(())
+    push_state(rt, &mut answers.state, alloc, &mut seats);
 }
 
-// Adds what a collection of all instruments answered. How many batches there are.
-fn push_all(
-    out: &mut Told,
+// Adds what a collection of all instruments answered that was refused midway. How many batches there are.
+fn push_fault<R: Abort>(
+    rt: &R,
+    out: &mut String,
     alloc: Global,
     plan: &Plan,
-    answer: Result<Vec<Batch>, AllFault>,
+    fault: &AllFault,
 ) -> usize {
-    match answer {
-        Ok(batches) => {
-            push_batches(out, alloc, plan, &batches);
-            batches.len()
-        }
-        Err(fault) => push_fault(out, alloc, plan, &fault),
-    }
-}
-
-// The same of one that was refused midway.
-fn push_fault(out: &mut Told, alloc: Global, plan: &Plan, fault: &AllFault) -> usize {
-    push_batches(out, alloc, plan, &fault.done);
+    push_batches(rt, out, alloc, plan, &fault.done);
     let (refusal, instrument) = (&fault.refusal, fault.instrument);
-    let added = writeln!(out.text, "fault {refusal} at {instrument}");
-    out.note(added);
+    writeln!(out, "fault {refusal} at {instrument}").or_fail(rt);
     fault.done.len()
 }
 
 // Collects the instruments after so many, one by one.
-fn push_left<R: Wait, B: Book>(
-    out: &mut Told,
+fn push_left<R: Wait + Abort, B: Book>(
     rt: &R,
+    out: &mut String,
     alloc: Global,
     provider: &Provider<B, NoGate>,
     seat: &mut Collector,
     done: usize,
 ) {
     let plan = provider.plan();
-    let count = plan.catalogue().instruments().len() as u32;
-    for instrument in 0..count {
-        if instrument as usize >= done {
-            let reply = reply_with(seat.collect(rt, alloc, provider, instrument, LATE));
-            push_reply(out, alloc, plan, &reply);
-        }
+    for instrument in done..plan.catalogue().instruments().len() {
+        let reply = reply_with(seat.collect(rt, alloc, provider, instrument as u32, LATE));
+        push_reply(rt, out, alloc, plan, &reply);
     }
 }

@@ -1,138 +1,109 @@
 //! The calls of a core and of the cell of an instrument.
+use crate::asserted::OrFail;
 use crate::mark::mark;
-use crate::refusals::answers::{Answers, Told};
+use crate::refusals::answers::{Answers, push};
 use crate::refusals::inputs::Data;
-use crate::refusals::prepared::{events_but, plan_of};
+use crate::refusals::prepared::{all_events, data_plan, events_but};
 use crate::refusals::replies::{push_replies, push_reply, reply_to};
-use crate::refusals::seats::START;
 use crate::refusals::words::Words;
-use anyhow::bail;
+use crate::seats::START;
 use metric_core::{Cell, Core};
 use metric_history::{Book, Reply};
 use metric_sdk::Plan;
 use std::alloc::{AllocError, Global};
+use std::process::Abort;
 
 /// Makes a core, and runs the script on it.
-pub(crate) fn answer_new<B: Book>(
+pub(crate) fn answer_new<R: Abort, B: Book>(
     answers: &mut Answers,
+    rt: &R,
     alloc: Global,
     data: &Data,
-) -> anyhow::Result<()> {
-    let plan = plan_of(alloc, data)?;
+) {
+    let plan = data_plan(rt, alloc, data);
     mark(alloc);
     let first: Result<Core<B>, (Plan, AllocError)> = Core::new(alloc, plan, START);
     mark(alloc);
-    match first {
-        Ok(mut core) => {
-            answers.first.push("a core\n");
-            push_script(&mut answers.state, alloc, data, &mut core)
+    let mut core = match first {
+        Ok(core) => {
+            push(rt, &mut answers.first, "a core\n");
+            core
         }
         Err((plan, _)) => {
-            answers.first.push("fault memory\n");
-            begin_again::<B>(answers, alloc, data, plan)
+            push(rt, &mut answers.first, "fault memory\n");
+            let core = Core::new(alloc, plan, START).ok().or_fail(rt);
+            push(rt, &mut answers.second, "a core\n");
+            core
         }
-    }
-}
-
-fn begin_again<B: Book>(
-    answers: &mut Answers,
-    alloc: Global,
-    data: &Data,
-    plan: Plan,
-) -> anyhow::Result<()> {
-    let mut core = core_of::<B>(alloc, plan)?;
-    answers.second.push("a core\n");
-    push_script(&mut answers.state, alloc, data, &mut core)
-}
-
-fn core_of<B: Book>(alloc: Global, plan: Plan) -> anyhow::Result<Core<B>> {
-    match Core::new(alloc, plan, START) {
-        Ok(core) => Ok(core),
-        Err(_) => bail!("no memory for a core"),
-    }
+    };
+    push_script(rt, &mut answers.state, alloc, data, &mut core);
 }
 
 // What the script is answered.
-fn push_script<B: Book>(
-    out: &mut Told,
+fn push_script<R: Abort, B: Book>(
+    rt: &R,
+    out: &mut String,
     alloc: Global,
     data: &Data,
     core: &mut Core<B>,
-) -> anyhow::Result<()> {
-    let events = events_but(alloc, data, None)?;
-    let replies = core.run(alloc, events.as_slice());
-    push_ran(out, alloc, core.plan(), replies);
-    Ok(())
+) {
+    let replies = core.run(alloc, all_events(rt, alloc, data).as_slice());
+    push_ran(rt, out, alloc, core.plan(), replies);
 }
 
 /// Runs the script, but the event that the words leave out, and then all of it again.
-pub(crate) fn answer_run<B: Book>(
+pub(crate) fn answer_run<R: Abort, B: Book>(
     answers: &mut Answers,
+    rt: &R,
     alloc: Global,
     words: &Words,
-) -> anyhow::Result<()> {
-    let mut core = core_of::<B>(alloc, plan_of(alloc, words.data)?)?;
-    let events = events_but(alloc, words.data, words.left)?;
+) {
+    let plan = data_plan(rt, alloc, words.data);
+    let mut core: Core<B> = Core::new(alloc, plan, START).ok().or_fail(rt);
+    let events = events_but(rt, alloc, words.data, words.left);
     mark(alloc);
     let first = core.run(alloc, events.as_slice());
     mark(alloc);
-    push_ran(&mut answers.first, alloc, core.plan(), first);
-    if words.is_once {
-        return Ok(());
+    push_ran(rt, &mut answers.first, alloc, core.plan(), first);
+    if !words.is_once {
+        push_script(rt, &mut answers.second, alloc, words.data, &mut core);
     }
-    push_script(&mut answers.second, alloc, words.data, &mut core)
 }
 
-fn push_ran(out: &mut Told, alloc: Global, plan: &Plan, answer: Result<Vec<Reply>, AllocError>) {
+fn push_ran<R: Abort>(
+    rt: &R,
+    out: &mut String,
+    alloc: Global,
+    plan: &Plan,
+    answer: Result<Vec<Reply>, AllocError>,
+) {
     match answer {
-        Ok(replies) => push_replies(out, alloc, plan, &replies),
-        Err(_) => out.push("fault memory\n"),
+        Ok(replies) => push_replies(rt, out, alloc, plan, &replies),
+        Err(_) => push(rt, out, "fault memory\n"),
     }
 }
 
 /// Grants the first recorder a recording of the first instrument's spare budget.
-pub(crate) fn answer_grant<B: Book>(
+pub(crate) fn answer_grant<R: Abort, B: Book>(
     answers: &mut Answers,
+    rt: &R,
     alloc: Global,
     words: &Words,
-) -> anyhow::Result<()> {
-    let plan = plan_of(alloc, words.data)?;
-    let mut cell = cell_of::<B>(alloc, &plan)?;
-    if cell.facts().budgets.len() == 0 {
-        bail!("no recorder");
-    }
+) {
+    let plan = data_plan(rt, alloc, words.data);
+    assert!(rt; plan.all_facts().len() > 0);
+    let mut cell: Cell<B> = Cell::new(alloc, &plan, 0, START).or_fail(rt);
+    assert!(rt; cell.facts().budgets.len() > 0);
     mark(alloc);
     let first = cell.grant(0, 1);
     mark(alloc);
     let first = reply_to(first, Reply::Granted);
-    push_reply(&mut answers.first, alloc, &plan, &first);
+    push_reply(rt, &mut answers.first, alloc, &plan, &first);
     if !words.is_once {
-        grant_again(&mut answers.second, alloc, &plan, &mut cell)?;
+        assert!(rt; cell.facts().budgets.len() > 0);
+        let second = reply_to(cell.grant(0, 1), Reply::Granted);
+        push_reply(rt, &mut answers.second, alloc, &plan, &second);
     }
     let (granted, spare) = (cell.granted(0), cell.spare());
-    let added = writeln!(answers.state.text, "granted {granted}, to spare {spare}");
-    answers.state.note(added);
-    Ok(())
-}
-
-fn grant_again<B: Book>(
-    out: &mut Told,
-    alloc: Global,
-    plan: &Plan,
-    cell: &mut Cell<B>,
-) -> anyhow::Result<()> {
-    if cell.facts().budgets.len() == 0 {
-        bail!("no recorder");
-    }
-    let second = reply_to(cell.grant(0, 1), Reply::Granted);
-    push_reply(out, alloc, plan, &second);
-    Ok(())
-}
-
-// The cell of the first instrument.
-fn cell_of<B: Book>(alloc: Global, plan: &Plan) -> anyhow::Result<Cell<B>> {
-    if plan.all_facts().len() == 0 {
-        bail!("no instrument");
-    }
-    Ok(Cell::new(alloc, plan, 0, START)?)
+    writeln!(answers.state, "granted {granted}, to spare {spare}").or_fail(rt);
 }

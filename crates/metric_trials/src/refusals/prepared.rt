@@ -1,15 +1,17 @@
 //! What a data declares, made ready for a call.
-ghost use Rattle.std.specs.Prelude.{IfOk, IsTrue};
+ghost use Rattle.std.specs.Prelude.{IsTrue};
 
+use crate::asserted::OrFail;
 use crate::refusals::inputs::Data;
-use anyhow::{Context, bail};
+use crate::seats::plan_of;
 use metric_base::Items;
 use metric_history::Event;
-use metric_parts::{Needs, Parts, parts_of};
+use metric_parts::{Needs, parts_of};
 use metric_script::events_of;
-use metric_sdk::{Catalogue, Certificate, Config, Plan, certified_plan, make};
+use metric_sdk::{Catalogue, Certificate, Config, Plan, make};
 use metric_text::lines;
-use std::alloc::{AllocError, Global};
+use std::alloc::Global;
+use std::process::Abort;
 
 const SCRIPT: Needs = Needs {
     certificate: false,
@@ -24,93 +26,73 @@ pub(crate) struct Declared {
 }
 
 /// What a data declares.
-pub(crate) fn declared_of(alloc: Global, data: &Data) -> anyhow::Result<Declared> {
-    let catalogue = Catalogue::read(alloc, data.catalogue)?;
-    let config = Config::read(alloc, data.config)?;
-    Ok(Declared { catalogue, config })
+pub(crate) fn declared_of<R: Abort>(rt: &R, alloc: Global, data: &Data) -> Declared {
+    Declared {
+        catalogue: Catalogue::read(alloc, data.catalogue).or_fail(rt),
+        config: Config::read(alloc, data.config).or_fail(rt),
+    }
 }
 
 /// The certificate of a data.
-pub(crate) fn certificate_of(alloc: Global, data: &Data) -> anyhow::Result<Certificate> {
-    let declared = declared_of(alloc, data)?;
-    Ok(make(alloc, &declared.catalogue, &declared.config)?)
+pub(crate) fn certificate_of<R: Abort>(rt: &R, alloc: Global, data: &Data) -> Certificate {
+    let declared = declared_of(rt, alloc, data);
+    make(alloc, &declared.catalogue, &declared.config).or_fail(rt)
 }
 
 /// The certified plan of a data.
-pub(crate) fn plan_of(alloc: Global, data: &Data) -> anyhow::Result<Plan>
-    ensures { IfOk result (λ plan. IsTrue plan.is_certified) }
+pub(crate) fn data_plan<R: Abort>(rt: &R, alloc: Global, data: &Data) -> Plan
+    ensures { IsTrue result.is_certified }
 {
-    let plan = certified_plan(alloc, data.catalogue, data.config)?;
-    if !plan.is_certified() {
-        bail!("a plan that is not certified");
-    }
-    Ok(plan)
+    plan_of(rt, alloc, data.catalogue, data.config)
 }
 
-/// The events of a data's script, but the one of a number, from 1.
-pub(crate) fn events_but(
+/// The events of a data's script.
+pub(crate) fn all_events<R: Abort>(rt: &R, alloc: Global, data: &Data) -> Items<Event> {
+    events_but(rt, alloc, data, 0)
+}
+
+/// The same, but the one of a number, from 1.
+pub(crate) fn events_but<R: Abort>(
+    rt: &R,
     alloc: Global,
     data: &Data,
-    left: Option<usize>,
-) -> anyhow::Result<Items<Event>> {
-    let input = input_but(alloc, data, "", left)?;
-    let lines = lines(alloc, input.as_bytes())?;
-    let parts = parts_of(alloc, &lines, SCRIPT)?;
-    events_in(alloc, &parts)
-}
-
-fn events_in(alloc: Global, parts: &Parts<'_>) -> anyhow::Result<Items<Event>> {
-    let script = parts.script.as_ref().context("no script")?;
-    let script = events_of(alloc, script)?;
-    Ok(script.events)
+    left: usize,
+) -> Items<Event> {
+    let input = input_but(rt, alloc, data, "", left);
+    let lines = lines(alloc, input.as_bytes()).or_fail(rt);
+    let parts = parts_of(alloc, &lines, SCRIPT).or_fail(rt);
+    let script = parts.script.as_ref().or_fail(rt);
+    events_of(alloc, script).or_fail(rt).events
 }
 
 /// The input of parts that a data is, with its certificate.
-pub(crate) fn input_of(alloc: Global, data: &Data) -> anyhow::Result<String> {
-    let certificate = certificate_of(alloc, data)?.write(alloc)?;
-    let part = format!(in alloc; "%% certificate\n{certificate}")?;
-    Ok(input_but(alloc, data, &part, None)?)
+pub(crate) fn input_of<R: Abort>(rt: &R, alloc: Global, data: &Data) -> String {
+    let certificate = certificate_of(rt, alloc, data).write(alloc).or_fail(rt);
+    let part = format!(in alloc; "%% certificate\n{certificate}").or_fail(rt);
+    input_but(rt, alloc, data, &part, 0)
 }
 
-// The input of parts with a certificate's part, but one event.
-fn input_but(
+// The input of parts with a certificate's part, but the event of a number.
+fn input_but<R: Abort>(
+    rt: &R,
     alloc: Global,
     data: &Data,
     certificate: &str,
-    left: Option<usize>,
-) -> Result<String, AllocError> {
-    let mut input = declarations(alloc, data.catalogue, data.config, certificate)?;
-    push_script(&mut input, data.script, left.unwrap_or(0))?;
-    Ok(input)
-}
-
-// The parts before the events.
-fn declarations(
-    alloc: Global,
-    catalogue: &str,
-    config: &str,
-    certificate: &str,
-) -> Result<String, AllocError> {
+    left: usize,
+) -> String {
     let parts = [
         "%% catalogue\n",
-        catalogue,
+        data.catalogue,
         "%% config\n",
-        config,
+        data.config,
         certificate,
         "%% script\nstart 0\n",
     ];
-    parts.concat(alloc)
-}
-
-// Adds the lines of a script, but the one of a number, from 1.
-fn push_script(out: &mut String, script: &str, left: usize) -> Result<(), AllocError> {
-    let mut number: usize = 0;
-    for line in script.lines() {
-        number = number.wrapping_add(1);
-        if number != left {
-            out.push_str(line)?;
-            out.push('\n')?;
+    let mut input = parts.concat(alloc).or_fail(rt);
+    for (number, line) in data.script.lines().enumerate() {
+        if number.wrapping_add(1) != left {
+            writeln!(input, "{line}").or_fail(rt);
         }
     }
-    Ok(())
+    input
 }

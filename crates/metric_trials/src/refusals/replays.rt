@@ -1,11 +1,13 @@
 //! A script replayed.
+use crate::asserted::OrFail;
 use crate::mark::mark;
-use crate::refusals::answers::{Answers, Told};
+use crate::refusals::answers::{Answers, push, push_line};
 use crate::refusals::inputs::Data;
 use crate::refusals::prepared::input_of;
 use metric_kit_commands::{KitFault, ReplayOptions, replay};
 use metric_sdk::{CutSource, StdSink};
-use std::alloc::{AllocError, Global};
+use std::alloc::Global;
+use std::process::Abort;
 
 // Room for all that a replay writes, so that its sink asks for none while it is called.
 const ROOM: usize = 1_000_000;
@@ -20,38 +22,30 @@ const OPTIONS: ReplayOptions = ReplayOptions {
 type Held = StdSink<Vec<u8>>;
 
 /// Replays the input that a data is.
-pub(crate) fn answer_replay(
-    answers: &mut Answers,
-    alloc: Global,
-    data: &Data,
-) -> anyhow::Result<()> {
-    let input = input_of(alloc, data)?;
-    let mut sink = sink_with_room(alloc)?;
+pub(crate) fn answer_replay<R: Abort>(answers: &mut Answers, rt: &R, alloc: Global, data: &Data) {
+    let input = input_of(rt, alloc, data);
+    let mut sink = sink_with_room(rt, alloc);
     let mut source = CutSource::new(input.as_bytes(), None);
     mark(alloc);
     let first = replay(alloc, OPTIONS, &mut source, &mut sink);
     mark(alloc);
-    push_replayed(&mut answers.first, first, sink);
-    let mut sink = sink_with_room(alloc)?;
+    push_replayed(rt, &mut answers.first, first, sink);
+    let mut sink = sink_with_room(rt, alloc);
     let mut source = CutSource::new(input.as_bytes(), None);
     let second = replay(alloc, OPTIONS, &mut source, &mut sink);
-    push_replayed(&mut answers.second, second, sink);
-    Ok(())
+    push_replayed(rt, &mut answers.second, second, sink);
 }
 
-fn sink_with_room(alloc: Global) -> Result<Held, AllocError> {
-    Ok(StdSink::new(Vec::with_capacity(alloc, ROOM)?))
+fn sink_with_room<R: Abort>(rt: &R, alloc: Global) -> Held {
+    StdSink::new(Vec::with_capacity(alloc, ROOM).or_fail(rt))
 }
 
 // Adds what was written, and how the replay ended.
-fn push_replayed(out: &mut Told, answer: Result<(), KitFault>, sink: Held) {
+fn push_replayed<R: Abort>(rt: &R, out: &mut String, answer: Result<(), KitFault>, sink: Held) {
     let written = sink.into_inner();
-    match str::from_utf8(written.as_slice()) {
-        Ok(text) => out.push(text),
-        Err(_) => out.note_gap(),
-    }
+    push(rt, out, str::from_utf8(written.as_slice()).or_fail(rt));
     match answer {
-        Ok(()) => out.push("all replayed\n"),
-        Err(fault) => out.push_line("fault", &fault),
+        Ok(()) => push(rt, out, "all replayed\n"),
+        Err(fault) => push_line(rt, out, "fault", &fault),
     }
 }

@@ -1,22 +1,14 @@
 //! The words of the command line.
 use crate::refusals::inputs::{Data, all_data};
-use anyhow::{Context, bail};
 
-/// A call that needs no book.
+/// A call.
 #[derive(Clone, Copy)]
-pub(crate) enum Plain {
+pub(crate) enum Call {
     Make,
     Write,
     Read,
     Check,
     Trial,
-    Audit,
-    Replay,
-}
-
-/// A call over a book.
-#[derive(Clone, Copy)]
-pub(crate) enum Booked {
     New,
     Run,
     Start,
@@ -25,15 +17,43 @@ pub(crate) enum Booked {
     CollectAll,
     Shutdown,
     Finish,
+    Audit,
     Grant,
+    Replay,
 }
 
-/// A call.
-#[derive(Clone, Copy)]
-pub(crate) enum Call {
-    Plain(Plain),
-    Booked(Booked),
+/// What is due of a call.
+#[derive(Clone, Copy, PartialEq, Eq)]
+pub(crate) enum Due {
+    /// An answer, over each book.
+    Answer,
+    /// The same of one step on an instrument, which is not refused.
+    Step,
+    /// An answer without a book.
+    Plain,
+    /// The same twice, since the call changes nothing and takes nothing.
+    Twice,
 }
+
+/// The calls by their words.
+pub(crate) const CALLS: &[(&str, Call, Due)] = &[
+    ("make", Call::Make, Due::Twice),
+    ("write", Call::Write, Due::Twice),
+    ("read", Call::Read, Due::Twice),
+    ("check", Call::Check, Due::Plain),
+    ("trial", Call::Trial, Due::Plain),
+    ("new", Call::New, Due::Answer),
+    ("run", Call::Run, Due::Answer),
+    ("start", Call::Start, Due::Answer),
+    ("record", Call::Record, Due::Step),
+    ("collect", Call::Collect, Due::Step),
+    ("collect-all", Call::CollectAll, Due::Answer),
+    ("shutdown", Call::Shutdown, Due::Answer),
+    ("finish", Call::Finish, Due::Answer),
+    ("audit", Call::Audit, Due::Twice),
+    ("grant", Call::Grant, Due::Step),
+    ("replay", Call::Replay, Due::Twice),
+];
 
 /// A book.
 #[derive(Clone, Copy)]
@@ -42,26 +62,6 @@ pub(crate) enum BookName {
     Marked,
     Audited,
 }
-
-/// The calls by their words.
-pub(crate) const CALLS: &[(&str, Call)] = &[
-    ("make", Call::Plain(Plain::Make)),
-    ("write", Call::Plain(Plain::Write)),
-    ("read", Call::Plain(Plain::Read)),
-    ("check", Call::Plain(Plain::Check)),
-    ("trial", Call::Plain(Plain::Trial)),
-    ("new", Call::Booked(Booked::New)),
-    ("run", Call::Booked(Booked::Run)),
-    ("start", Call::Booked(Booked::Start)),
-    ("record", Call::Booked(Booked::Record)),
-    ("collect", Call::Booked(Booked::Collect)),
-    ("collect-all", Call::Booked(Booked::CollectAll)),
-    ("shutdown", Call::Booked(Booked::Shutdown)),
-    ("finish", Call::Booked(Booked::Finish)),
-    ("audit", Call::Plain(Plain::Audit)),
-    ("grant", Call::Booked(Booked::Grant)),
-    ("replay", Call::Plain(Plain::Replay)),
-];
 
 /// The books by their words.
 pub(crate) const BOOKS: &[(&str, BookName)] = &[
@@ -76,63 +76,43 @@ pub(crate) struct Words {
     pub call: Call,
     pub book: BookName,
     pub data: &'static Data,
-    /// The event that the first call of `run` leaves out, counted from 1.
-    pub left: Option<usize>,
+    /// The event that the first call of `run` leaves out, counted from 1; 0 leaves none out.
+    pub left: usize,
     /// Whether the call is made once.
     pub is_once: bool,
 }
 
-/// What the words ask for.
-pub(crate) fn words_of(owned: &[String]) -> anyhow::Result<Words> {
-    match owned {
-        [call, book, of] => asked(call, book, of),
-        [call, book, of, how] => made(asked(call, book, of)?, how),
-        _ => bail!("usage: metric_trials refuse CALL BOOK DATA [once|N]"),
+impl Words {
+    /// All of the call, made twice.
+    pub(crate) fn new(call: Call, book: BookName, data: &'static Data) -> Words {
+        Words {
+            call,
+            book,
+            data,
+            left: 0,
+            is_once: false,
+        }
     }
 }
 
-fn asked(call: &str, book: &str, of: &str) -> anyhow::Result<Words> {
-    Ok(Words {
-        call: named(CALLS, call).context("no such call")?,
-        book: named(BOOKS, book).context("no such book")?,
-        data: data_of(of).context("no such data")?,
-        left: None,
-        is_once: false,
-    })
-}
-
-// How the calls are made.
-fn made(words: Words, how: &str) -> anyhow::Result<Words> {
-    if how == "once" {
-        return Ok(Words {
+/// What the words ask for, where they are right.
+pub(crate) fn words_of(owned: &[String]) -> Option<Words> {
+    let ([call, book, of] | [call, book, of, _]) = owned else {
+        return None;
+    };
+    let (_, call, _) = CALLS.iter().find(|(name, ..)| *name == call.as_str())?;
+    let (_, book) = BOOKS.iter().find(|(name, _)| *name == book.as_str())?;
+    let data = all_data().iter().find(|data| data.name == of.as_str())?;
+    let words = Words::new(*call, *book, data);
+    match owned.get(3) {
+        None => Some(words),
+        Some(how) if how.as_str() == "once" => Some(Words {
             is_once: true,
             ..words
-        });
-    }
-    match how.parse::<usize>() {
-        Ok(number) => Ok(Words {
-            left: Some(number),
+        }),
+        Some(how) => Some(Words {
+            left: how.as_str().parse::<usize>().ok()?,
             ..words
         }),
-        Err(_) => bail!("neither once nor a number"),
     }
-}
-
-// What a word stands for.
-fn named<T: Copy>(table: &[(&str, T)], word: &str) -> Option<T> {
-    for (name, what) in table {
-        if *name == word {
-            return Some(*what);
-        }
-    }
-    None
-}
-
-fn data_of(word: &str) -> Option<&'static Data> {
-    for data in all_data() {
-        if data.name == word {
-            return Some(data);
-        }
-    }
-    None
 }

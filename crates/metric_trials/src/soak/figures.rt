@@ -1,45 +1,86 @@
 //! What rounds did, in numbers.
+use crate::asserted::OrFail;
+use std::process::Abort;
 
-/// What the rounds over a book did.
+/// A figure, by its place.
+pub(crate) const ROUNDS: usize = 0;
+
+/// The accepted recordings, and those that were refused: of the closed instrument, and beyond a budget.
+pub(crate) const ACCEPTED: usize = 1;
+
+pub(crate) const CLOSED: usize = 2;
+
+pub(crate) const BEYOND: usize = 3;
+
+/// How often a recorder was granted more.
+pub(crate) const GRANTS: usize = 4;
+
+/// The collections of all instruments by each reader, and their points.
+pub(crate) const DELTAS: usize = 5;
+
+pub(crate) const CUMULATIVES: usize = 6;
+
+pub(crate) const POINTS: usize = 7;
+
+/// The totals that were compared, the batches that were audited, and the recordings that they were audited with.
+pub(crate) const SETTLED: usize = 8;
+
+pub(crate) const BATCHES: usize = 9;
+
+pub(crate) const ENTRIES: usize = 10;
+
+// What stands behind each figure.
+const NAMES: [&str; 11] = [
+    " rounds, ",
+    " recordings accepted, ",
+    " refused as closed, ",
+    " beyond a budget, ",
+    " grants, ",
+    " delta and ",
+    " cumulative collections, ",
+    " points, ",
+    " totals settled, ",
+    " batches of ",
+    " recordings audited, nothing is off",
+];
+
+/// What the rounds over a book, or a thread of one, did.
 #[derive(Clone, Copy)]
 pub(crate) struct Figures {
-    pub rounds: u64,
-    /// The accepted recordings, and those that were refused: of the closed instrument, and beyond a budget.
-    pub accepted: u64,
-    pub closed: u64,
-    pub beyond: u64,
-    /// How often a recorder was granted more.
-    pub grants: u64,
-    /// The collections of all instruments by each reader, and their points.
-    pub deltas: u64,
-    pub cumulatives: u64,
-    pub points: u64,
-    /// The totals that were compared, the batches that were audited, and the recordings that they were audited with.
-    pub settled: u64,
-    pub batches: u64,
-    pub entries: u64,
+    counts: [u64; 11],
 }
 
 impl Figures {
     /// Before the first round.
     pub(crate) fn new() -> Figures {
-        Figures {
-            rounds: 0,
-            accepted: 0,
-            closed: 0,
-            beyond: 0,
-            grants: 0,
-            deltas: 0,
-            cumulatives: 0,
-            points: 0,
-            settled: 0,
-            batches: 0,
-            entries: 0,
+        Figures { counts: [0; 11] }
+    }
+
+    /// Adds to the figure of a place.
+    pub(crate) fn add(&mut self, place: usize, more: u64) {
+        if let Some(count) = self.counts.get_mut(place) {
+            *count = count.wrapping_add(more);
         }
+    }
+
+    /// Adds the figures of a thread.
+    pub(crate) fn add_all(&mut self, more: &Figures) {
+        for (count, own) in self.counts.iter_mut().zip(&more.counts) {
+            *count = count.wrapping_add(*own);
+        }
+    }
+
+    /// The number of rounds.
+    pub(crate) fn rounds(&self) -> u64 {
+        self.counts[ROUNDS]
     }
 }
 
-/// Adds to a figure.
-pub(crate) fn add(figure: &mut u64, more: u64) {
-    *figure = figure.wrapping_add(more);
+/// Prints what a book did: each figure, and what stands behind it.
+pub(crate) fn print_figures<R: Print + Abort>(rt: &R, book: &str, figures: &Figures) {
+    print!(rt; "{book}: ").or_fail(rt);
+    for (count, name) in figures.counts.iter().zip(&NAMES) {
+        print!(rt; "{}{}", *count, *name).or_fail(rt);
+    }
+    println!(rt; "").or_fail(rt);
 }

@@ -1,5 +1,8 @@
 //! The catalogue and the config of a soak.
-use std::alloc::{AllocError, Global};
+use crate::asserted::OrFail;
+use crate::inputs::push_recorders;
+use std::alloc::Global;
+use std::process::Abort;
 
 /// How many instruments there are.
 pub(crate) const INSTRUMENTS: usize = 6;
@@ -46,10 +49,11 @@ boundaries = [4]
 keep = []
 ";
 
-// The instruments, each with what stands before the values of its keys.
+// The instruments, each with what stands before its keys. The list has the combinations that recordings have.
 const NAMES: [&str; INSTRUMENTS] = [
     "name = 'product'\nkind = 'counter'\nrange = [0, 9]\n",
-    "name = 'list'\nkind = 'up_down_counter'\nrange = [-5, 4]\n",
+    "name = 'list'\nkind = 'up_down_counter'\nrange = [-5, 4]\nallowed = [[1, 1], [2, 2], [3, 3], [4, 1], \
+     [5, 2], [6, 3], [7, 1], [8, 2], [9, 3], [10, 1]]\n",
     "name = 'asked'\nkind = 'histogram'\nrange = [0, 9]\nboundaries = [2, 5]\nspare = 1000000000000\n",
     "name = 'latest'\nkind = 'gauge'\nrange = [-5, 4]\n",
     "name = 'closed'\nkind = 'counter'\nrange = [0, 9]\n",
@@ -67,9 +71,6 @@ const SIZES: [(u32, u32); INSTRUMENTS] = [
     (100, 100),
 ];
 
-// The one that lists its combinations.
-const LISTED: usize = 1;
-
 // What each recorder may record on each instrument without a grant. All recorders together have at most the limit of
 // 2,000 of the last one.
 const BUDGETS: [u64; INSTRUMENTS] = [
@@ -82,54 +83,26 @@ const BUDGETS: [u64; INSTRUMENTS] = [
 ];
 
 /// The catalogue for so many recorders.
-pub(crate) fn catalogue(alloc: Global, recorders: u32) -> Result<String, AllocError> {
-    let mut out = String::from_str(alloc, "format = 2\n[[meter]]\nname = 'soak'\n")?;
-    for (number, name) in NAMES.iter().enumerate() {
-        write!(out, "[[meter.instrument]]\n{}", *name)?;
-        push_combinations(&mut out, number)?;
-        push_keys(&mut out, number)?;
+pub(crate) fn catalogue<R: Abort>(rt: &R, alloc: Global, recorders: u32) -> String {
+    let mut out = String::from_str(alloc, "format = 2\n[[meter]]\nname = 'soak'\n").or_fail(rt);
+    for (name, sizes) in NAMES.iter().zip(&SIZES) {
+        write!(out, "[[meter.instrument]]\n{}", *name).or_fail(rt);
+        push_key(rt, &mut out, "first", sizes.0);
+        push_key(rt, &mut out, "second", sizes.1);
     }
-    for number in 0..recorders {
-        push_recorder(&mut out, number)?;
-    }
-    Ok(out)
+    push_recorders(rt, &mut out, recorders, &BUDGETS);
+    out
 }
 
-// The combinations that recordings have, where the instrument lists them.
-fn push_combinations(out: &mut String, number: usize) -> Result<(), AllocError> {
-    if number != LISTED {
-        return Ok(());
-    }
-    out.push_str("allowed = [")?;
-    for first in 0..FIRST {
-        let second = first % SECOND + 1;
-        write!(out, "[{}, {second}], ", first + 1)?;
-    }
-    out.push_str("]\n")
-}
-
-fn push_keys(out: &mut String, number: usize) -> Result<(), AllocError> {
-    let (first, second) = SIZES.get(number).copied().unwrap_or((1, 1));
-    push_key(out, "first", first)?;
-    push_key(out, "second", second)
-}
-
-fn push_key(out: &mut String, name: &str, values: u32) -> Result<(), AllocError> {
-    write!(out, "[[meter.instrument.key]]\nname = '{name}'\nvalues = [")?;
+fn push_key<R: Abort>(rt: &R, out: &mut String, name: &str, values: u32) {
+    write!(out, "[[meter.instrument.key]]\nname = '{name}'\nvalues = [").or_fail(rt);
     for value in 0..values {
-        write!(out, "{value}, ")?;
+        write!(out, "{value}, ").or_fail(rt);
     }
-    out.push_str("]\n")
+    out.push_str("]\n").or_fail(rt);
 }
 
-fn push_recorder(out: &mut String, number: u32) -> Result<(), AllocError> {
-    writeln!(out, "[[recorder]]\nname = 'recorder.{number}'")?;
-    for (instrument, amount) in BUDGETS.iter().enumerate() {
-        writeln!(
-            out,
-            "[[recorder.budget]]\ninstrument = {instrument}\namount = {}",
-            *amount
-        )?;
-    }
-    Ok(())
+/// Ends the soak where something of an instrument is off, and says what.
+pub(crate) fn check<R: Abort>(rt: &R, instrument: u32, holds: bool, what: &str) {
+    assert!(rt; holds, "instrument {instrument}: {what}");
 }

@@ -1,8 +1,10 @@
 //! What the thread of a recorder does, and what it was told.
-use crate::soak::figures::{Figures, add};
+use crate::asserted::OrFail;
+use crate::soak::figures::{BEYOND, CLOSED as REFUSED, Figures, GRANTS};
 use crate::soak::inputs::{ASKED, CLOSED, FIRST, INSTRUMENTS, LEAST, MORE, SECOND, VALUES};
 use metric_history::Book;
 use metric_sdk::{Attr, NoGate, Provider, Recorder, Refusal};
+use std::process::Abort;
 use std::sync::Wait;
 
 /// What a recorder was told of an instrument, counted beside the seat.
@@ -12,7 +14,8 @@ pub(crate) struct Tally {
     pub sum: i64,
 }
 
-const NOTHING: Tally = Tally { count: 0, sum: 0 };
+/// Before the first recording.
+pub(crate) const NOTHING: Tally = Tally { count: 0, sum: 0 };
 
 // One recording.
 #[derive(Clone, Copy)]
@@ -27,9 +30,7 @@ struct One {
 pub(crate) struct Worker {
     pub recorder: Recorder,
     pub told: [Tally; INSTRUMENTS],
-    pub closed: u64,
-    pub beyond: u64,
-    pub grants: u64,
+    pub figures: Figures,
 }
 
 impl Worker {
@@ -38,28 +39,24 @@ impl Worker {
         Worker {
             recorder,
             told: [NOTHING; INSTRUMENTS],
-            closed: 0,
-            beyond: 0,
-            grants: 0,
+            figures: Figures::new(),
         }
     }
 
-    /// Makes so many recordings, in turn on each instrument. The first recorder closes an instrument midway. Refused is
-    /// what may not be.
-    pub(crate) fn work<R: Wait, B: Book>(
+    /// Makes so many recordings, in turn on each instrument. The first recorder closes an instrument midway.
+    pub(crate) fn work<R: Wait + Abort, B: Book>(
         &mut self,
         rt: &R,
         provider: &Provider<B, NoGate>,
         events: u32,
-    ) -> Result<(), Refusal> {
+    ) {
         for turn in 0..events {
             if turn == events / 2 && self.recorder.number() == 0 {
-                provider.close(rt, CLOSED)?;
+                provider.close(rt, CLOSED).or_fail(rt);
             }
             let one = self.recording(turn);
-            self.record(rt, provider, one)?;
+            self.record(rt, provider, one).or_fail(rt);
         }
-        Ok(())
     }
 
     // The recording of a turn.
@@ -75,23 +72,25 @@ impl Worker {
         }
     }
 
+    // Makes a recording. Refused is what may not be.
     fn record<R: Wait, B: Book>(
         &mut self,
         rt: &R,
         provider: &Provider<B, NoGate>,
         one: One,
     ) -> Result<(), Refusal> {
-        let attrs = [attr("first", one.first), attr("second", one.first % SECOND)];
-        match self
+        let first = Attr::whole("first", i64::from(one.first));
+        let second = Attr::whole("second", i64::from(one.first % SECOND));
+        let answer = self
             .recorder
-            .record(rt, provider, one.instrument, &attrs, one.value)
-        {
+            .record(rt, provider, one.instrument, &[first, second], one.value);
+        match answer {
             Ok(()) => {
                 self.tell(one);
                 Ok(())
             }
             Err(Refusal::Closed) if one.instrument == CLOSED => {
-                add(&mut self.closed, 1);
+                self.figures.add(REFUSED, 1);
                 Ok(())
             }
             Err(Refusal::Budget) => self.ask(rt, provider, one.instrument),
@@ -101,7 +100,7 @@ impl Worker {
 
     fn tell(&mut self, one: One) {
         if let Some(tally) = self.told.get_mut(one.instrument as usize) {
-            add(&mut tally.count, 1);
+            tally.count = tally.count.wrapping_add(1);
             tally.sum = tally.sum.wrapping_add(one.value);
         }
     }
@@ -113,10 +112,10 @@ impl Worker {
         provider: &Provider<B, NoGate>,
         instrument: u32,
     ) -> Result<(), Refusal> {
-        add(&mut self.beyond, 1);
+        self.figures.add(BEYOND, 1);
         match self.recorder.ask(rt, provider, instrument, MORE) {
             Ok(()) => {
-                add(&mut self.grants, 1);
+                self.figures.add(GRANTS, 1);
                 Ok(())
             }
             Err(Refusal::NoSpare) if instrument != ASKED => Ok(()),
@@ -129,24 +128,8 @@ impl Worker {
         let Worker {
             recorder,
             told: _,
-            closed: _,
-            beyond: _,
-            grants: _,
+            figures: _,
         } = self;
         recorder
     }
-
-    /// Adds what the recorder did.
-    pub(crate) fn add_to(&self, figures: &mut Figures) {
-        add(&mut figures.closed, self.closed);
-        add(&mut figures.beyond, self.beyond);
-        add(&mut figures.grants, self.grants);
-        for tally in &self.told {
-            add(&mut figures.accepted, tally.count);
-        }
-    }
-}
-
-fn attr<'a>(key: &'a str, value: u32) -> Attr<'a> {
-    Attr::whole(key, i64::from(value))
 }

@@ -1,5 +1,5 @@
 //! How a batch goes on where the one before it ended.
-use crate::soak::rounds::START;
+use crate::seats::START;
 use metric_sdk::{Batch, Items, Point, PointValue, StreamPoints};
 
 /// What a reader asks for.

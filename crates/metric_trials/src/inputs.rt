@@ -1,35 +1,24 @@
 //! Catalogues and configs of a size, set keys and attributes.
-use metric_sdk::{Attr, Plan, SetKey, certified_plan};
-use std::alloc::{AllocError, Global};
+ghost use Rattle.std.specs.Prelude.{IsTrue};
+
+use crate::asserted::OrFail;
+use crate::seats::plan_of;
+use metric_sdk::{Attr, Measurement, Plan, SetKey};
+use std::alloc::Global;
 use std::ops::Range;
+use std::process::Abort;
 
-/// How many different set keys there are at most.
-pub(crate) const MOST_SETS: u32 = 262_144;
-
-/// How many threads may record.
-pub(crate) const MOST_THREADS: u32 = 64;
-
-/// How many recorders there are in a catalogue that is read and checked.
-pub(crate) const RECORDERS: u32 = 4;
-
-/// How many keys have more than one value.
-pub(crate) const WIDE_KEYS: u32 = 3;
+// How many keys have more than one value.
+const WIDE_KEYS: u32 = 3;
 
 /// How many values a key has at most, and how many the first keys of lists of attributes have.
 pub(crate) const MANY_VALUES: u32 = 64;
 
-/// How many values a key has in a catalogue that is read and checked.
-pub(crate) const SOME_VALUES: u32 = 8;
-
 // With how many values of each of three keys there can be more series than the highest limit.
 const MORE_VALUES: u32 = 101;
 
-/// How often an operation is repeated at most. With what comes before, no recorder records more often than the highest
-/// limit of series.
-pub(crate) const MOST_EVENTS: u32 = 700_000;
-
-/// The kinds of instruments: a counter, a gauge, histograms of 15 and of 128 boundaries, and an up-down counter.
-pub(crate) const KINDS: &[&str] = &[
+// The kinds of instruments: a counter, a gauge, histograms of 15 and of 128 boundaries, and an up-down counter.
+const KINDS: &[&str] = &[
     "kind = 'counter'\nrange = [0, 9999]\n",
     "kind = 'gauge'\nrange = [0, 9999]\n",
     "kind = 'histogram'\nrange = [0, 9999]\n",
@@ -62,11 +51,11 @@ const VALUES: &[&str] = &[
     "value.56", "value.57", "value.58", "value.59", "value.60", "value.61", "value.62", "value.63",
 ];
 
-// The texts round the numbers of a catalogue and a config.
-const BY_HASH: &str = "\namount = 1000000\n";
-
 /// The amount of a recorder that records as often as it likes.
-pub(crate) const BUDGET: &str = "\namount = 1000000000000\n";
+pub(crate) const MUCH: u64 = 1_000_000_000_000;
+
+// The amount of one whose series are to be found by hash.
+const LITTLE: u64 = 1_000_000;
 
 const LIMIT: &str = "'\nlimit = { counter = 1000000, up_down_counter = 1000000, gauge = 1000000, \
      histogram = 1000000 }\n";
@@ -76,8 +65,8 @@ const LIMIT: &str = "'\nlimit = { counter = 1000000, up_down_counter = 1000000, 
 pub(crate) struct Shape {
     /// How many instruments there are.
     pub instruments: u32,
-    /// The number of their kind among the [`KINDS`].
-    pub kind: u32,
+    /// The number of their kind among the kinds.
+    pub kind: usize,
     /// How many keys each has.
     pub keys: u32,
     /// How many values each of the first keys has.
@@ -85,100 +74,87 @@ pub(crate) struct Shape {
     /// How many recorders there are.
     pub recorders: u32,
     /// What each recorder may record on each instrument.
-    pub budget: &'static str,
+    pub budget: u64,
 }
 
 /// A catalogue of a shape.
-pub(crate) fn catalogue(alloc: Global, shape: &Shape) -> Result<String, AllocError> {
-    let mut out = String::from_str(alloc, "format = 1\n[[meter]]\nname = 'm'\n")?;
-    push_instruments(&mut out, shape)?;
-    push_recorders(&mut out, shape)?;
-    Ok(out)
-}
-
-fn push_instruments(out: &mut String, shape: &Shape) -> Result<(), AllocError> {
+pub(crate) fn catalogue<R: Abort>(rt: &R, alloc: Global, shape: &Shape) -> String {
+    let mut out = String::from_str(alloc, "format = 1\n[[meter]]\nname = 'm'\n").or_fail(rt);
     for number in 0..shape.instruments {
-        writeln!(out, "[[meter.instrument]]\nname = 'hits.{number}'")?;
-        out.push_str(kind_of(shape.kind))?;
-        push_keys(out, shape)?;
+        let kind = KINDS.get(shape.kind).copied().unwrap_or("");
+        write!(out, "[[meter.instrument]]\nname = 'hits.{number}'\n{kind}").or_fail(rt);
+        push_keys(rt, &mut out, shape);
     }
-    Ok(())
+    let amounts = vec![in alloc; shape.budget; shape.instruments as usize].or_fail(rt);
+    push_recorders(rt, &mut out, shape.recorders, &amounts);
+    out
 }
 
-fn kind_of(number: u32) -> &'static str {
-    match KINDS.get(number as usize) {
-        Some(kind) => *kind,
-        None => "",
-    }
-}
-
-fn push_keys(out: &mut String, shape: &Shape) -> Result<(), AllocError> {
+fn push_keys<R: Abort>(rt: &R, out: &mut String, shape: &Shape) {
     for key in 0..shape.keys {
         let values = if key < WIDE_KEYS { shape.values } else { 1 };
-        write!(
-            out,
-            "[[meter.instrument.key]]\nname = 'key.{key}'\nvalues = ['value.0'"
-        )?;
-        push_numbered(out, 1..values, ", 'value.", "'")?;
-        out.push_str("]\n")?;
+        let name = "[[meter.instrument.key]]\nname = 'key.";
+        write!(out, "{name}{key}'\nvalues = ['value.0'").or_fail(rt);
+        push_numbered(rt, out, 1..values, ", 'value.", "'");
+        out.push_str("]\n").or_fail(rt);
     }
-    Ok(())
 }
 
-fn push_recorders(out: &mut String, shape: &Shape) -> Result<(), AllocError> {
-    for recorder in 0..shape.recorders {
-        writeln!(out, "[[recorder]]\nname = 'recorder.{recorder}'")?;
-        push_numbered(
-            out,
-            0..shape.instruments,
-            "[[recorder.budget]]\ninstrument = ",
-            shape.budget,
-        )?;
+/// Adds so many recorders, each with these amounts for the instruments.
+pub(crate) fn push_recorders<R: Abort>(rt: &R, out: &mut String, count: u32, amounts: &[u64]) {
+    for recorder in 0..count {
+        writeln!(out, "[[recorder]]\nname = 'recorder.{recorder}'").or_fail(rt);
+        push_budgets(rt, out, amounts);
     }
-    Ok(())
 }
 
-// Each number between two texts.
-fn push_numbered(
+fn push_budgets<R: Abort>(rt: &R, out: &mut String, amounts: &[u64]) {
+    for (instrument, amount) in amounts.iter().enumerate() {
+        let amount = *amount;
+        writeln!(
+            out,
+            "[[recorder.budget]]\ninstrument = {instrument}\namount = {amount}"
+        )
+        .or_fail(rt);
+    }
+}
+
+// Adds each number between two texts.
+fn push_numbered<R: Abort>(
+    rt: &R,
     out: &mut String,
     numbers: Range<u32>,
     before: &str,
     after: &str,
-) -> Result<(), AllocError> {
+) {
     for number in numbers {
-        write!(out, "{before}{number}{after}")?;
+        write!(out, "{before}{number}{after}").or_fail(rt);
     }
-    Ok(())
 }
 
 /// A config of so many readers with the highest limits of series, and of so many views, each of which selects one
 /// instrument by its name.
-pub(crate) fn config(alloc: Global, readers: u32, views: u32) -> Result<String, AllocError> {
-    let mut out = String::from_str(alloc, "format = 1\n")?;
-    push_numbered(&mut out, 0..readers, "[[reader]]\nname = 'reader.", LIMIT)?;
+pub(crate) fn config<R: Abort>(rt: &R, alloc: Global, readers: u32, views: u32) -> String {
+    let mut out = String::from_str(alloc, "format = 1\n").or_fail(rt);
     push_numbered(
+        rt,
         &mut out,
-        0..views,
-        "[[view]]\ninstrument_name = 'hits.",
-        "'\nkeep = ['key.0']\n",
-    )?;
-    Ok(out)
+        0..readers,
+        "[[reader]]\nname = 'reader.",
+        LIMIT,
+    );
+    let view = "[[view]]\ninstrument_name = 'hits.";
+    push_numbered(rt, &mut out, 0..views, view, "'\nkeep = ['key.0']\n");
+    out
 }
 
-/// How the series of an instrument are found.
-#[derive(Clone, Copy)]
-pub(crate) enum Found {
-    /// By the hash of their set keys: there can be more of them than the limit, but not so many recordings.
-    ByHash,
-    /// By their rank among all that there can be, which have their places from the start.
-    Dense,
-}
-
-/// The shape of a catalogue with an instrument of this kind, whose three keys tell so many series apart.
-pub(crate) fn one_of(kind: u32, series: u32, found: Found) -> Shape {
-    let (values, budget) = match found {
-        Found::ByHash => (MORE_VALUES, BY_HASH),
-        Found::Dense => (values_for(series), BUDGET),
+/// The shape of a catalogue with an instrument of this kind, whose three keys tell so many series apart. They are found
+/// by their rank among all that there can be, which have their places from the start, or by the hash of their set keys:
+/// then there can be more of them than the limit, but not so many recordings.
+pub(crate) fn one_of(kind: usize, series: u32, is_dense: bool) -> Shape {
+    let (values, budget) = match is_dense {
+        true => (values_for(series), MUCH),
+        false => (MORE_VALUES, LITTLE),
     };
     Shape {
         instruments: 1,
@@ -190,21 +166,52 @@ pub(crate) fn one_of(kind: u32, series: u32, found: Found) -> Shape {
     }
 }
 
+/// The shape of one with so many counters, of so many keys, for so many recorders that record as often as they like.
+pub(crate) fn counters(instruments: u32, keys: u32, values: u32, recorders: u32) -> Shape {
+    Shape {
+        instruments,
+        kind: 0,
+        keys,
+        values,
+        recorders,
+        budget: MUCH,
+    }
+}
+
 /// The certified plan of a shape, for so many readers.
-pub(crate) fn plan_of(alloc: Global, shape: &Shape, readers: u32) -> anyhow::Result<Plan> {
-    let catalogue = catalogue(alloc, shape)?;
-    let config = config(alloc, readers, 0)?;
-    Ok(certified_plan(alloc, &catalogue, &config)?)
+pub(crate) fn shaped_plan<R: Abort>(rt: &R, alloc: Global, shape: &Shape, readers: u32) -> Plan
+    ensures { IsTrue result.is_certified }
+{
+    let catalogue = catalogue(rt, alloc, shape);
+    plan_of(rt, alloc, &catalogue, &config(rt, alloc, readers, 0))
 }
 
 /// So many different set keys of three keys.
-pub(crate) fn sets(alloc: Global, count: u32) -> Result<Vec<SetKey>, AllocError> {
+pub(crate) fn sets<R: Abort>(rt: &R, alloc: Global, count: u32) -> Vec<SetKey> {
     let values = values_for(count);
     let mut sets = Vec::new(alloc);
     for number in 0..count {
-        sets.push(set_of(number, values))?;
+        sets.push(set_of(number, values)).or_fail(rt);
     }
-    Ok(sets)
+    sets
+}
+
+/// So many recordings of series, one after the other and over again, with different values.
+pub(crate) fn recordings<R: Abort>(
+    rt: &R,
+    alloc: Global,
+    count: u32,
+    series: u32,
+) -> Vec<Measurement> {
+    let values = values_for(series);
+    let series = series.max(1);
+    let mut recordings = Vec::with_capacity(alloc, count as usize).or_fail(rt);
+    for number in 0..count {
+        let set = set_of(number % series, values);
+        let value = value_of(number);
+        recordings.push(Measurement { set, value }).or_fail(rt);
+    }
+    recordings
 }
 
 /// The least number of values with which three keys tell so many series apart, [`MANY_VALUES`] at most.
@@ -317,21 +324,21 @@ fn next_digits(digits: [u32; 3], values: u32) -> [u32; 3] {
 }
 
 // So many attributes, one for each key, of which the last one with many values has that of this number.
-fn attributes(alloc: Global, count: u32, number: u32) -> Result<Vec<Attr<'static>>, AllocError> {
+fn attributes<R: Abort>(rt: &R, alloc: Global, count: u32, number: u32) -> Vec<Attr<'static>> {
     let last = count.min(WIDE_KEYS).saturating_sub(1) as usize;
     let mut attributes = Vec::new(alloc);
     for key in KEYS.iter().take(count as usize) {
         let value = if attributes.len() == last { number } else { 0 };
-        attributes.push(attribute(*key, value))?;
+        attributes.push(attribute(*key, value)).or_fail(rt);
     }
-    Ok(attributes)
+    attributes
 }
 
 /// Lists of so many attributes, with different values.
-pub(crate) fn lists(alloc: Global, count: u32) -> Result<Vec<Vec<Attr<'static>>>, AllocError> {
+pub(crate) fn lists<R: Abort>(rt: &R, alloc: Global, count: u32) -> Vec<Vec<Attr<'static>>> {
     let mut lists = Vec::new(alloc);
     for number in 0..MANY_VALUES {
-        lists.push(attributes(alloc, count, number)?)?;
+        lists.push(attributes(rt, alloc, count, number)).or_fail(rt);
     }
-    Ok(lists)
+    lists
 }
