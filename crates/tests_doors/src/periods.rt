@@ -293,12 +293,12 @@ const MANY_TICKS: &[Tick] = &[
 fn tell_counts<R: Abort + Wait>(page: &mut Page<'_, R>, is_strange: bool) {
     let mut service = hit_once(page.rt, page.alloc, 91);
     let mut strange = hit_once(page.rt, page.alloc, 92);
-    let seats = if is_strange {
-        &mut strange
+    let taken = if is_strange {
+        strange.readers.pop()
     } else {
-        &mut service
+        service.readers.pop()
     };
-    let reader = seats.readers.pop().expect(page.rt, "no reader");
+    let reader = taken.expect(page.rt, "no reader");
     let running = RunningCounts::new();
     let mut ticker = ListTicker::new(MANY_TICKS);
     let end = Periodic::new(unsteady(page.alloc), 9).run_counted(
