@@ -1,12 +1,11 @@
 //! Catalogues and configs of a size, set keys and attributes.
 ghost use Rattle.std.specs.Prelude.{IsTrue};
 
-use crate::asserted::OrFail;
+use crate::asserted::{OrFail, Stop};
 use crate::seats::plan_of;
 use metric_sdk::{Attr, Measurement, Plan, SetKey};
 use std::alloc::Global;
 use std::ops::Range;
-use std::process::Abort;
 
 // How many keys have more than one value.
 const WIDE_KEYS: u32 = 3;
@@ -78,7 +77,7 @@ pub(crate) struct Shape {
 }
 
 /// A catalogue of a shape.
-pub(crate) fn catalogue<R: Abort>(rt: &R, alloc: Global, shape: &Shape) -> String {
+pub(crate) fn catalogue<R: Stop>(rt: &R, alloc: Global, shape: &Shape) -> String {
     let mut out = String::from_str(alloc, "format = 1\n[[meter]]\nname = 'm'\n").or_fail(rt);
     for number in 0..shape.instruments {
         let kind = KINDS.get(shape.kind).copied().unwrap_or("");
@@ -90,7 +89,7 @@ pub(crate) fn catalogue<R: Abort>(rt: &R, alloc: Global, shape: &Shape) -> Strin
     out
 }
 
-fn push_keys<R: Abort>(rt: &R, out: &mut String, shape: &Shape) {
+fn push_keys<R: Stop>(rt: &R, out: &mut String, shape: &Shape) {
     for key in 0..shape.keys {
         let values = if key < WIDE_KEYS { shape.values } else { 1 };
         let name = "[[meter.instrument.key]]\nname = 'key.";
@@ -101,14 +100,14 @@ fn push_keys<R: Abort>(rt: &R, out: &mut String, shape: &Shape) {
 }
 
 /// Adds so many recorders, each with these amounts for the instruments.
-pub(crate) fn push_recorders<R: Abort>(rt: &R, out: &mut String, count: u32, amounts: &[u64]) {
+pub(crate) fn push_recorders<R: Stop>(rt: &R, out: &mut String, count: u32, amounts: &[u64]) {
     for recorder in 0..count {
         writeln!(out, "[[recorder]]\nname = 'recorder.{recorder}'").or_fail(rt);
         push_budgets(rt, out, amounts);
     }
 }
 
-fn push_budgets<R: Abort>(rt: &R, out: &mut String, amounts: &[u64]) {
+fn push_budgets<R: Stop>(rt: &R, out: &mut String, amounts: &[u64]) {
     for (instrument, amount) in amounts.iter().enumerate() {
         let amount = *amount;
         writeln!(
@@ -120,7 +119,7 @@ fn push_budgets<R: Abort>(rt: &R, out: &mut String, amounts: &[u64]) {
 }
 
 // Adds each number between two texts.
-fn push_numbered<R: Abort>(
+fn push_numbered<R: Stop>(
     rt: &R,
     out: &mut String,
     numbers: Range<u32>,
@@ -134,7 +133,7 @@ fn push_numbered<R: Abort>(
 
 /// A config of so many readers with the highest limits of series, and of so many views, each of which selects one
 /// instrument by its name.
-pub(crate) fn config<R: Abort>(rt: &R, alloc: Global, readers: u32, views: u32) -> String {
+pub(crate) fn config<R: Stop>(rt: &R, alloc: Global, readers: u32, views: u32) -> String {
     let mut out = String::from_str(alloc, "format = 1\n").or_fail(rt);
     push_numbered(
         rt,
@@ -179,7 +178,7 @@ pub(crate) fn counters(instruments: u32, keys: u32, values: u32, recorders: u32)
 }
 
 /// The certified plan of a shape, for so many readers.
-pub(crate) fn shaped_plan<R: Abort>(rt: &R, alloc: Global, shape: &Shape, readers: u32) -> Plan
+pub(crate) fn shaped_plan<R: Stop>(rt: &R, alloc: Global, shape: &Shape, readers: u32) -> Plan
     ensures { IsTrue result.is_certified }
 {
     let catalogue = catalogue(rt, alloc, shape);
@@ -187,7 +186,7 @@ pub(crate) fn shaped_plan<R: Abort>(rt: &R, alloc: Global, shape: &Shape, reader
 }
 
 /// So many different set keys of three keys.
-pub(crate) fn sets<R: Abort>(rt: &R, alloc: Global, count: u32) -> Vec<SetKey> {
+pub(crate) fn sets<R: Stop>(rt: &R, alloc: Global, count: u32) -> Vec<SetKey> {
     let values = values_for(count);
     let mut sets = Vec::new(alloc);
     for number in 0..count {
@@ -197,7 +196,7 @@ pub(crate) fn sets<R: Abort>(rt: &R, alloc: Global, count: u32) -> Vec<SetKey> {
 }
 
 /// So many recordings of series, one after the other and over again, with different values.
-pub(crate) fn recordings<R: Abort>(
+pub(crate) fn recordings<R: Stop>(
     rt: &R,
     alloc: Global,
     count: u32,
@@ -324,7 +323,7 @@ fn next_digits(digits: [u32; 3], values: u32) -> [u32; 3] {
 }
 
 // So many attributes, one for each key, of which the last one with many values has that of this number.
-fn attributes<R: Abort>(rt: &R, alloc: Global, count: u32, number: u32) -> Vec<Attr<'static>> {
+fn attributes<R: Stop>(rt: &R, alloc: Global, count: u32, number: u32) -> Vec<Attr<'static>> {
     let last = count.min(WIDE_KEYS).saturating_sub(1) as usize;
     let mut attributes = Vec::new(alloc);
     for key in KEYS.iter().take(count as usize) {
@@ -335,7 +334,7 @@ fn attributes<R: Abort>(rt: &R, alloc: Global, count: u32, number: u32) -> Vec<A
 }
 
 /// Lists of so many attributes, with different values.
-pub(crate) fn lists<R: Abort>(rt: &R, alloc: Global, count: u32) -> Vec<Vec<Attr<'static>>> {
+pub(crate) fn lists<R: Stop>(rt: &R, alloc: Global, count: u32) -> Vec<Vec<Attr<'static>>> {
     let mut lists = Vec::new(alloc);
     for number in 0..MANY_VALUES {
         lists.push(attributes(rt, alloc, count, number)).or_fail(rt);

@@ -16,9 +16,9 @@ mod refusals;
 mod seats;
 mod soak;
 
-use crate::asserted::OrFail;
+use crate::asserted::{OrFail, Stop};
 use std::env;
-use std::process::{Abort, ExitCode};
+use std::process::ExitCode;
 use std::rt::Files;
 use std::sync::Wait;
 use std::thread::Threads;
@@ -33,14 +33,14 @@ fn main(rt: HostRuntime) -> ExitCode {
 }
 
 // Makes each call, and a short round over each book.
-fn try_all<R: Print + AllocGlobal + Threads + Wait + Clock + Sync + Abort>(rt: &R) -> ExitCode {
+fn try_all<R: Print + AllocGlobal + Threads + Wait + Clock + Sync + Stop>(rt: &R) -> ExitCode {
     refusals::print_all(rt, rt.alloc());
     soak::try_once(rt, rt.alloc());
     ExitCode::SUCCESS
 }
 
 // Does what the first word says.
-fn run<R: Files + Print + Eprint + AllocGlobal + Threads + Wait + Clock + Sync + Abort>(
+fn run<R: Files + Print + Eprint + AllocGlobal + Threads + Wait + Clock + Sync + Stop>(
     rt: &R,
     words: &[String],
 ) -> ExitCode {

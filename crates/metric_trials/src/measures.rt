@@ -25,20 +25,19 @@ mod watch;
 mod words;
 mod works;
 
-use crate::asserted::OrFail;
+use crate::asserted::{OrFail, Stop};
 use crate::measures::parts::{Line, PARTS, Part, floor_name};
 use crate::measures::table::{Floor, Row, each, print_row, print_title, scaled};
 use crate::measures::words::Words;
 use crate::measures::works::{Case, least};
 use std::alloc::Global;
-use std::process::Abort;
 use std::rt::Files;
 use std::sync::Wait;
 use std::thread::Threads;
 use std::time::Clock;
 
 /// Prints the table of the part that the words name. Whether they are right.
-pub(crate) fn run<R: Files + Print + AllocGlobal + Threads + Wait + Clock + Sync + Abort>(
+pub(crate) fn run<R: Files + Print + AllocGlobal + Threads + Wait + Clock + Sync + Stop>(
     rt: &R,
     alloc: Global,
     words: &[String],
@@ -62,7 +61,7 @@ pub(crate) fn run<R: Files + Print + AllocGlobal + Threads + Wait + Clock + Sync
     true
 }
 
-fn measure<R: Print + Wait + Clock + Abort>(
+fn measure<R: Print + Wait + Clock + Stop>(
     rt: &R,
     alloc: Global,
     part: &Part,
@@ -75,7 +74,7 @@ fn measure<R: Print + Wait + Clock + Abort>(
     }
 }
 
-fn measure_size<R: Print + Wait + Clock + Abort>(
+fn measure_size<R: Print + Wait + Clock + Stop>(
     rt: &R,
     alloc: Global,
     part: &Part,
@@ -98,7 +97,7 @@ fn measure_size<R: Print + Wait + Clock + Abort>(
 }
 
 // Measures what a line tells, and what stands beside it.
-fn measure_line<R: Print + Wait + Clock + Abort>(
+fn measure_line<R: Print + Wait + Clock + Stop>(
     rt: &R,
     alloc: Global,
     part: &Part,

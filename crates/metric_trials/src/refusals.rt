@@ -20,17 +20,16 @@ mod replays;
 mod replies;
 mod words;
 
-use crate::asserted::OrFail;
+use crate::asserted::{OrFail, Stop};
 use crate::refusals::answers::Answers;
 use crate::refusals::calls::answers_of;
 use crate::refusals::inputs::{Data, all_data};
 use crate::refusals::words::{BOOKS, BookName, CALLS, Call, Due, Words, words_of};
 use std::alloc::Global;
-use std::process::Abort;
 use std::sync::Wait;
 
 /// Prints what the call answers that the words name. Whether they are right.
-pub(crate) fn run<R: Print + Wait + Abort>(rt: &R, alloc: Global, words: &[String]) -> bool {
+pub(crate) fn run<R: Print + Wait + Stop>(rt: &R, alloc: Global, words: &[String]) -> bool {
     let Some(words) = words_of(words) else {
         return false;
     };
@@ -41,7 +40,7 @@ pub(crate) fn run<R: Print + Wait + Abort>(rt: &R, alloc: Global, words: &[Strin
 }
 
 /// Prints a line for each call and each data: whether it answers as is due over each book, or what else it answers.
-pub(crate) fn print_all<R: Print + Wait + Abort>(rt: &R, alloc: Global) {
+pub(crate) fn print_all<R: Print + Wait + Stop>(rt: &R, alloc: Global) {
     for (name, call, due) in CALLS {
         for data in all_data() {
             print!(rt; "{} {}", *name, data.name).or_fail(rt);
@@ -50,7 +49,7 @@ pub(crate) fn print_all<R: Print + Wait + Abort>(rt: &R, alloc: Global) {
     }
 }
 
-fn print_line<R: Print + Wait + Abort>(
+fn print_line<R: Print + Wait + Stop>(
     rt: &R,
     alloc: Global,
     call: Call,

@@ -1,14 +1,13 @@
 //! A provider with the seats of its recorders and readers.
 ghost use Rattle.std.specs.Prelude.{IsTrue};
 
-use crate::asserted::OrFail;
+use crate::asserted::{OrFail, Stop, hold};
 use metric_history::Book;
 use metric_sdk::{
     AuditFault, Batch, Collector, NoGate, Plan, Provider, Recorder, Totals, audit, certified_plan,
     start_with_lanes,
 };
 use std::alloc::Global;
-use std::process::Abort;
 use std::sync::Wait;
 
 /// When a run starts, in nanoseconds.
@@ -54,14 +53,14 @@ impl<B: Book> Seats<B> {
     }
 
     /// What the provider comes to.
-    pub(crate) fn finish<R: Wait + Abort>(self, rt: &R, alloc: Global) -> Totals {
+    pub(crate) fn finish<R: Wait + Stop>(self, rt: &R, alloc: Global) -> Totals {
         let (provider, recorders) = self.into_parts();
         provider.finish(rt, alloc, recorders).ok().or_fail(rt)
     }
 }
 
 /// The certified plan of a catalogue and a config.
-pub(crate) fn plan_of<R: Abort>(rt: &R, alloc: Global, catalogue: &str, config: &str) -> Plan
+pub(crate) fn plan_of<R: Stop>(rt: &R, alloc: Global, catalogue: &str, config: &str) -> Plan
     ensures { IsTrue result.is_certified }
 {
     certified_plan(alloc, catalogue, config).or_fail(rt)
@@ -88,7 +87,7 @@ pub(crate) fn started<R: Wait, B: Book>(
 }
 
 /// The same, which has to succeed, of the first run.
-pub(crate) fn seats_of<R: Wait + Abort, B: Book>(
+pub(crate) fn seats_of<R: Wait + Stop, B: Book>(
     rt: &R,
     alloc: Global,
     plan: Plan,
@@ -100,7 +99,7 @@ pub(crate) fn seats_of<R: Wait + Abort, B: Book>(
 }
 
 /// Audits an instrument. How many entries its journal has.
-pub(crate) fn audited<R: Abort>(
+pub(crate) fn audited<R: Stop>(
     rt: &R,
     alloc: Global,
     plan: &Plan,
@@ -111,8 +110,12 @@ pub(crate) fn audited<R: Abort>(
     let at = instrument as usize;
     let entries = totals.journals.get(at).or_fail(rt).as_slice();
     let slips = totals.slips.get(at).or_fail(rt).as_slice();
-    assert!(rt; at < plan.all_facts().len());
-    assert!(rt; slips.len() == plan.catalogue().recorders().len());
+    hold(rt, at < plan.all_facts().len(), "the instrument is there");
+    hold(
+        rt,
+        slips.len() == plan.catalogue().recorders().len(),
+        "each recorder has slips",
+    );
     audit(alloc, plan, instrument, START, entries, slips, batches)?;
     Ok(entries.len() as u64)
 }

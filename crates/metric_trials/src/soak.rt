@@ -16,13 +16,12 @@ mod recording;
 mod rounds;
 mod seen;
 
-use crate::asserted::OrFail;
+use crate::asserted::{OrFail, Stop};
 use crate::soak::figures::{Figures, print_figures};
 use crate::soak::inputs::catalogue;
 use crate::soak::rounds::{Setup, round};
 use metric_sdk::{Audited, Marked};
 use std::alloc::Global;
-use std::process::Abort;
 use std::sync::Wait;
 use std::thread::{Threads, available_parallelism};
 use std::time::{Clock, Instant};
@@ -49,7 +48,7 @@ const SHORT: u32 = 600;
 const LANES: u32 = 4;
 
 // What all rounds have.
-fn setup_of<R: Threads + Abort>(rt: &R, alloc: Global, lanes: u32) -> Setup {
+fn setup_of<R: Threads + Stop>(rt: &R, alloc: Global, lanes: u32) -> Setup {
     let processors = available_parallelism(rt).or_fail(rt).get();
     let recorders = processors.saturating_add(MORE).min(MOST_RECORDERS) as u32;
     Setup {
@@ -60,7 +59,7 @@ fn setup_of<R: Threads + Abort>(rt: &R, alloc: Global, lanes: u32) -> Setup {
 }
 
 /// Makes a short round over each book.
-pub(crate) fn try_once<R: Threads + Wait + Clock + Print + Sync + Abort>(rt: &R, alloc: Global) {
+pub(crate) fn try_once<R: Threads + Wait + Clock + Print + Sync + Stop>(rt: &R, alloc: Global) {
     let setup = setup_of(rt, alloc, LANES);
     let mut figures = Figures::new();
     round::<R, Marked>(rt, alloc, &setup, SHORT, &mut figures);
@@ -70,7 +69,7 @@ pub(crate) fn try_once<R: Threads + Wait + Clock + Print + Sync + Abort>(rt: &R,
 }
 
 /// Soaks for as long as the words say. Whether they are right.
-pub(crate) fn run<R: Threads + Wait + Clock + Print + Sync + Abort>(
+pub(crate) fn run<R: Threads + Wait + Clock + Print + Sync + Stop>(
     rt: &R,
     alloc: Global,
     words: &[String],
@@ -92,7 +91,7 @@ pub(crate) fn run<R: Threads + Wait + Clock + Print + Sync + Abort>(
 }
 
 // Makes rounds over each book in turn until so many seconds have passed, and prints what they did.
-fn soak<R: Threads + Wait + Clock + Print + Sync + Abort>(
+fn soak<R: Threads + Wait + Clock + Print + Sync + Stop>(
     rt: &R,
     alloc: Global,
     setup: &Setup,

@@ -1,12 +1,11 @@
 //! Recordings between marks, by which `tools/watch-allocations` counts the allocations that each asks for.
-use crate::asserted::OrFail;
+use crate::asserted::{OrFail, Stop};
 use crate::inputs::{Cycle, one_of, recordings, shaped_plan};
 use crate::mark::mark;
 use crate::measures::calls::{Calls, How, LIST};
 use crate::seats::{Seats, seats_of};
 use metric_sdk::{Marked, MeterProvider, Recorder, Refusal};
 use std::alloc::Global;
-use std::process::Abort;
 use std::sync::Wait;
 
 // How many series an instrument has.
@@ -40,14 +39,14 @@ const STEPS: &[(&str, How, bool)] = &[
 ];
 
 /// Starts a provider of an instrument of each kind, makes recordings between marks, and prints what each is answered.
-pub(crate) fn print_answers<R: Print + Wait + Abort>(rt: &R, alloc: Global) {
+pub(crate) fn print_answers<R: Print + Wait + Stop>(rt: &R, alloc: Global) {
     for (name, kind, is_dense) in INSTRUMENTS {
         let plan = shaped_plan(rt, alloc, &one_of(*kind, SERIES, *is_dense), STREAMS);
         print_steps(rt, alloc, *name, seats_of(rt, alloc, plan, 1));
     }
 }
 
-fn print_steps<R: Print + Wait + Abort>(
+fn print_steps<R: Print + Wait + Stop>(
     rt: &R,
     alloc: Global,
     name: &str,

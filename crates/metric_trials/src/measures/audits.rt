@@ -1,5 +1,5 @@
 //! What the audit of a journal costs.
-use crate::asserted::OrFail;
+use crate::asserted::{OrFail, Stop};
 use crate::inputs::{catalogue, one_of, recordings};
 use crate::measures::calls::{Calls, How};
 use crate::measures::watch::Watch;
@@ -7,7 +7,6 @@ use crate::measures::works::Case;
 use crate::seats::{Seats, audited, plan_of, seats_of};
 use metric_sdk::{Audited, Batch};
 use std::alloc::Global;
-use std::process::Abort;
 use std::sync::Wait;
 use std::time::Clock;
 
@@ -32,7 +31,7 @@ temporality = { counter = 'delta' }
 
 /// Makes a journal of so many series with its slips and batches, and audits it. How many entries and batches there are.
 /// Each reader's batches are made once more from the entries, so beside an entry stands an operation for each reader.
-pub(crate) fn audit_once<R: Wait + Clock + Abort>(
+pub(crate) fn audit_once<R: Wait + Clock + Stop>(
     rt: &R,
     alloc: Global,
     case: &Case,
@@ -51,7 +50,7 @@ pub(crate) fn audit_once<R: Wait + Clock + Abort>(
 }
 
 // The batches of all readers after each time that the recordings were made.
-fn batches_of<R: Wait + Abort>(
+fn batches_of<R: Wait + Stop>(
     rt: &R,
     alloc: Global,
     seats: &mut Seats<Audited>,
@@ -73,7 +72,7 @@ fn batches_of<R: Wait + Abort>(
     batches
 }
 
-fn collect_each<R: Wait + Abort>(
+fn collect_each<R: Wait + Stop>(
     rt: &R,
     alloc: Global,
     seats: &mut Seats<Audited>,

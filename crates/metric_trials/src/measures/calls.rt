@@ -1,9 +1,8 @@
 //! What a seat records.
-use crate::asserted::OrFail;
+use crate::asserted::{OrFail, Stop};
 use crate::inputs::Cycle;
 use metric_history::Book;
 use metric_sdk::{Measurement, NoGate, Provider, Recorder, Refusal};
-use std::process::Abort;
 use std::sync::Wait;
 use std::sync::atomic::{AtomicBool, Ordering};
 
@@ -40,7 +39,7 @@ impl Calls<'_> {
     }
 
     /// Makes so many rounds. How many recordings there were.
-    pub(crate) fn repeat<R: Wait + Abort, B: Book>(
+    pub(crate) fn repeat<R: Wait + Stop, B: Book>(
         self,
         rt: &R,
         provider: &Provider<B, NoGate>,
@@ -58,7 +57,7 @@ impl Calls<'_> {
     }
 
     /// Makes so many recordings with attributes, or fewer where it is over before. How many there were.
-    pub(crate) fn record_until<R: Wait + Abort, B: Book>(
+    pub(crate) fn record_until<R: Wait + Stop, B: Book>(
         self,
         rt: &R,
         provider: &Provider<B, NoGate>,

@@ -2,12 +2,11 @@
 ghost use Rattle.std.specs.Prelude.{◌≡◌, ◌<◌, true, length, All, IsTrue};
 ghost use Rattle.metric_facts.specs.Facts.{in_bounds, is_allowed_set};
 
-use crate::asserted::{OrFail, hold};
+use crate::asserted::{OrFail, Stop, hold};
 use metric_core::Cell;
 use metric_facts::{Facts, is_allowed_set};
 use metric_sdk::{Batch, Marked, Measurement, Plan};
 use std::alloc::Global;
-use std::process::Abort;
 
 /// The cell of an instrument, and recordings that it may take.
 #[derive(Drop)]
@@ -21,21 +20,25 @@ pub(crate) struct Instrument {
 
 impl Instrument {
     /// The first instrument of a plan, which has recorded nothing, and recordings for it.
-    pub(crate) fn new<R: Abort>(
+    pub(crate) fn new<R: Stop>(
         rt: &R,
         alloc: Global,
         plan: &Plan,
         recordings: Vec<Measurement>,
     ) -> Instrument {
-        assert!(rt; plan.all_facts().len() > 0);
+        hold(rt, plan.all_facts().len() > 0, "an instrument is there");
         let cell = Cell::new(alloc, plan, 0, 0).or_fail(rt);
-        assert!(rt; cell.facts().budgets.len() > 0);
-        assert!(rt; are_sound(cell.facts(), &recordings));
+        hold(rt, cell.facts().budgets.len() > 0, "a recorder is there");
+        hold(
+            rt,
+            are_sound(cell.facts(), &recordings),
+            "recordings are allowed",
+        );
         Instrument { cell, recordings }
     }
 
     /// Makes each recording so many times. How many there were.
-    pub(crate) fn repeat<R: Abort>(&mut self, rt: &R, rounds: u32) -> u64 {
+    pub(crate) fn repeat<R: Stop>(&mut self, rt: &R, rounds: u32) -> u64 {
         let mut accepted: u64 = 0;
         for _ in 0..rounds {
             accepted = accepted.wrapping_add(record_all(&mut self.cell, &self.recordings));
@@ -46,8 +49,8 @@ impl Instrument {
     }
 
     /// What the first reader collects.
-    pub(crate) fn collect<R: Abort>(&mut self, rt: &R, alloc: Global) -> Batch {
-        assert!(rt; self.cell.facts().delta.len() > 0);
+    pub(crate) fn collect<R: Stop>(&mut self, rt: &R, alloc: Global) -> Batch {
+        hold(rt, self.cell.facts().delta.len() > 0, "a reader is there");
         self.cell.collect(alloc, 0, 0).or_fail(rt)
     }
 }

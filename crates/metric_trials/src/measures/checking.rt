@@ -1,12 +1,11 @@
 //! What it costs to read a catalogue, a config and a certificate, to make and check it, and to start what it certifies.
-use crate::asserted::OrFail;
+use crate::asserted::{OrFail, Stop};
 use crate::inputs::{catalogue, config, counters};
 use crate::measures::watch::Watch;
 use crate::measures::works::{Act, Case};
 use crate::seats::{Seats, plan_of, seats_of};
 use metric_sdk::{Catalogue, Certificate, Config, Marked, check, make};
 use std::alloc::Global;
-use std::process::Abort;
 use std::sync::Wait;
 use std::time::Clock;
 
@@ -23,7 +22,7 @@ pub(crate) const RECORDERS: u32 = 4;
 pub(crate) const SOME_VALUES: u32 = 8;
 
 // Counters and as many views as stand beside them, each of which selects one.
-fn texts_of<R: Abort>(rt: &R, alloc: Global, instruments: u32) -> (String, String, u64) {
+fn texts_of<R: Stop>(rt: &R, alloc: Global, instruments: u32) -> (String, String, u64) {
     let mut views = 1;
     for (number, beside) in VIEWS {
         if *number == instruments {
@@ -37,7 +36,7 @@ fn texts_of<R: Abort>(rt: &R, alloc: Global, instruments: u32) -> (String, Strin
 }
 
 /// Does a step. A number that depends on it.
-pub(crate) fn step_done<R: Wait + Clock + Abort>(
+pub(crate) fn step_done<R: Wait + Clock + Stop>(
     rt: &R,
     alloc: Global,
     case: &Case,
@@ -58,7 +57,7 @@ fn count_bytes(text: &str, watch: &mut Watch) {
     watch.count_sized(text.len() as u64, text.len() as u64);
 }
 
-fn read_catalogue<R: Clock + Abort>(rt: &R, alloc: Global, text: &str, watch: &mut Watch) -> u64 {
+fn read_catalogue<R: Clock + Stop>(rt: &R, alloc: Global, text: &str, watch: &mut Watch) -> u64 {
     count_bytes(text, watch);
     watch.start(rt);
     let catalogue = Catalogue::read(alloc, text).or_fail(rt);
@@ -66,7 +65,7 @@ fn read_catalogue<R: Clock + Abort>(rt: &R, alloc: Global, text: &str, watch: &m
     catalogue.instruments().len() as u64
 }
 
-fn read_config<R: Clock + Abort>(rt: &R, alloc: Global, text: &str, watch: &mut Watch) -> u64 {
+fn read_config<R: Clock + Stop>(rt: &R, alloc: Global, text: &str, watch: &mut Watch) -> u64 {
     count_bytes(text, watch);
     watch.start(rt);
     let config = Config::read(alloc, text).or_fail(rt);
@@ -74,7 +73,7 @@ fn read_config<R: Clock + Abort>(rt: &R, alloc: Global, text: &str, watch: &mut 
     config.views().len() as u64
 }
 
-fn start_once<R: Wait + Clock + Abort>(
+fn start_once<R: Wait + Clock + Stop>(
     rt: &R,
     alloc: Global,
     catalogue: &str,
@@ -89,7 +88,7 @@ fn start_once<R: Wait + Clock + Abort>(
 }
 
 // What is done with files that were read before.
-fn certify<R: Clock + Abort>(
+fn certify<R: Clock + Stop>(
     rt: &R,
     alloc: Global,
     act: Act,
@@ -113,7 +112,7 @@ fn certify<R: Clock + Abort>(
     }
 }
 
-fn read_certificate<R: Clock + Abort>(rt: &R, alloc: Global, text: &str, watch: &mut Watch) -> u64 {
+fn read_certificate<R: Clock + Stop>(rt: &R, alloc: Global, text: &str, watch: &mut Watch) -> u64 {
     count_bytes(text, watch);
     watch.start(rt);
     let certificate = Certificate::read(alloc, text).or_fail(rt);
@@ -121,7 +120,7 @@ fn read_certificate<R: Clock + Abort>(rt: &R, alloc: Global, text: &str, watch: 
     certificate.claims().streams.len() as u64
 }
 
-fn check_once<R: Clock + Abort>(
+fn check_once<R: Clock + Stop>(
     rt: &R,
     alloc: Global,
     catalogue: Catalogue,

@@ -1,5 +1,5 @@
 //! What set keys cost: made of attributes, and looked for among an instrument's combinations.
-use crate::asserted::{OrFail, hold};
+use crate::asserted::{OrFail, Stop, hold};
 use crate::inputs::{MANY_VALUES, catalogue, counters, lists, set_of};
 use crate::measures::floors::EVENTS;
 use crate::measures::walk::Walk;
@@ -8,11 +8,10 @@ use crate::measures::works::Case;
 use metric_combinations::{CombinationRows, Combinations};
 use metric_sdk::{Attr, Catalogue, SetKey};
 use std::alloc::Global;
-use std::process::Abort;
 use std::time::Clock;
 
 /// Makes set keys of lists of so many attributes, one after the other. A number that depends on all.
-pub(crate) fn encode_lists<R: Clock + Abort>(
+pub(crate) fn encode_lists<R: Clock + Stop>(
     rt: &R,
     alloc: Global,
     case: &Case,
@@ -29,7 +28,7 @@ pub(crate) fn encode_lists<R: Clock + Abort>(
 }
 
 // The set keys of one list of attributes after the other. The sum of their entries that differ.
-fn encode_all<R: Abort>(rt: &R, catalogue: &Catalogue, all: &[Vec<Attr<'_>>], events: u32) -> u64 {
+fn encode_all<R: Stop>(rt: &R, catalogue: &Catalogue, all: &[Vec<Attr<'_>>], events: u32) -> u64 {
     let walk = Walk::new();
     let mut sum: u64 = 0;
     let mut at = 0;
@@ -44,7 +43,7 @@ fn encode_all<R: Abort>(rt: &R, catalogue: &Catalogue, all: &[Vec<Attr<'_>>], ev
 }
 
 // Each pair of values of the first two keys, with one value of the third.
-fn rows<R: Abort>(rt: &R, alloc: Global, count: u32) -> Vec<SetKey> {
+fn rows<R: Stop>(rt: &R, alloc: Global, count: u32) -> Vec<SetKey> {
     let mut rows = Vec::new(alloc);
     for number in 0..count {
         let third = number.wrapping_mul(7919) % MANY_VALUES;
@@ -54,7 +53,7 @@ fn rows<R: Abort>(rt: &R, alloc: Global, count: u32) -> Vec<SetKey> {
     rows
 }
 
-fn combinations_of<R: Abort>(rt: &R, alloc: Global, rows: &[SetKey]) -> Combinations {
+fn combinations_of<R: Stop>(rt: &R, alloc: Global, rows: &[SetKey]) -> Combinations {
     let mut read = CombinationRows::new(alloc);
     for row in rows {
         read.push(*row).or_fail(rt);
@@ -64,7 +63,7 @@ fn combinations_of<R: Abort>(rt: &R, alloc: Global, rows: &[SetKey]) -> Combinat
 }
 
 /// Asks for one row of as many as an instrument has at most after the other whether it is one. How many are.
-pub(crate) fn ask_for_rows<R: Clock + Abort>(
+pub(crate) fn ask_for_rows<R: Clock + Stop>(
     rt: &R,
     alloc: Global,
     case: &Case,

@@ -1,5 +1,5 @@
 //! What it costs to write the points of a batch, beside a copy of as many bytes.
-use crate::asserted::OrFail;
+use crate::asserted::{OrFail, Stop};
 use crate::inputs::recordings;
 use crate::measures::cells::Instrument;
 use crate::measures::watch::Watch;
@@ -8,7 +8,6 @@ use metric_sdk::{
     Attr, Batch, Dialect, Encoding, Exposition, OtlpBytes, OtlpLines, Plain, Plan, Resource,
 };
 use std::alloc::Global;
-use std::process::Abort;
 use std::time::Clock;
 
 // Between what times the points lie, in nanoseconds since 1970.
@@ -30,7 +29,7 @@ pub(crate) enum Format {
 }
 
 /// Writes a batch, or copies what is written. A number that depends on each byte.
-pub(crate) fn write<R: Clock + Abort>(
+pub(crate) fn write<R: Clock + Stop>(
     rt: &R,
     alloc: Global,
     case: &Case,
@@ -52,7 +51,7 @@ pub(crate) fn write<R: Clock + Abort>(
 }
 
 // The buffer has grown before.
-fn write_in<R: Clock + Abort, E: Encoding>(
+fn write_in<R: Clock + Stop, E: Encoding>(
     rt: &R,
     alloc: Global,
     case: &Case,
@@ -77,7 +76,7 @@ fn write_in<R: Clock + Abort, E: Encoding>(
 }
 
 // A batch of one recording of each series.
-fn batch_of<R: Abort>(rt: &R, alloc: Global, case: &Case, plan: &Plan) -> Batch {
+fn batch_of<R: Stop>(rt: &R, alloc: Global, case: &Case, plan: &Plan) -> Batch {
     let recordings = recordings(rt, alloc, case.size, case.size);
     let mut instrument = Instrument::new(rt, alloc, plan, recordings);
     instrument.repeat(rt, 1);

@@ -1,5 +1,5 @@
 //! What the machine takes at least, and what one would write by hand: the floors beside which the other figures stand.
-use crate::asserted::OrFail;
+use crate::asserted::{OrFail, Stop};
 use crate::inputs::{Cycle, Texts, sets};
 use crate::measures::walk::Walk;
 use crate::measures::watch::Watch;
@@ -8,7 +8,6 @@ use indexmap::IndexMap;
 use metric_sdk::SetKey;
 use std::alloc::Global;
 use std::hash::{BuildHasher, BuildHasherDefault, DefaultHasher, FoldHasher};
-use std::process::Abort;
 use std::sync::{Mutex, Wait};
 use std::time::Clock;
 
@@ -30,7 +29,7 @@ pub(crate) const EVENTS: u32 = 200_000;
 const COUNT: u64 = 200_000;
 
 /// Looks up set keys in a map of so many. The sum of what was found.
-pub(crate) fn look_up_sets<R: Clock + Abort>(
+pub(crate) fn look_up_sets<R: Clock + Stop>(
     rt: &R,
     alloc: Global,
     case: &Case,
@@ -60,7 +59,7 @@ fn look_all_up(map: &IndexMap<SetKey, u64>, sets: &[SetKey]) -> u64 {
 }
 
 /// A map with these keys.
-pub(crate) fn map_of<R: Abort>(rt: &R, alloc: Global, sets: &[SetKey]) -> IndexMap<SetKey, u64> {
+pub(crate) fn map_of<R: Stop>(rt: &R, alloc: Global, sets: &[SetKey]) -> IndexMap<SetKey, u64> {
     let mut map = IndexMap::new(alloc);
     for set in sets {
         map.insert(*set, 1).or_fail(rt);
@@ -69,7 +68,7 @@ pub(crate) fn map_of<R: Abort>(rt: &R, alloc: Global, sets: &[SetKey]) -> IndexM
 }
 
 /// Copies bytes to where others stood. The last one.
-pub(crate) fn copy_bytes<R: Clock + Abort>(rt: &R, alloc: Global, watch: &mut Watch) -> u64 {
+pub(crate) fn copy_bytes<R: Clock + Stop>(rt: &R, alloc: Global, watch: &mut Watch) -> u64 {
     let from: Vec<u8> = vec![in alloc; 1; BYTES].or_fail(rt);
     let mut to = from.clone().or_fail(rt);
     to.clear();
@@ -81,7 +80,7 @@ pub(crate) fn copy_bytes<R: Clock + Abort>(rt: &R, alloc: Global, watch: &mut Wa
 }
 
 /// Adds at one place after the other of a list of so many sums, each time under a lock. What stands at the last place.
-pub(crate) fn add_at_places<R: Wait + Clock + Abort>(
+pub(crate) fn add_at_places<R: Wait + Clock + Stop>(
     rt: &R,
     alloc: Global,
     case: &Case,
@@ -119,7 +118,7 @@ fn add_at<R: Wait>(rt: &R, sums: &Mutex<Vec<u64>>, at: usize) -> u64 {
 }
 
 /// Adds to the sums of one series after the other, of so many, each found by its three texts under a lock. A sum.
-pub(crate) fn add_by_texts<R: Wait + Clock + Abort>(
+pub(crate) fn add_by_texts<R: Wait + Clock + Stop>(
     rt: &R,
     alloc: Global,
     hash: Hash,
@@ -139,7 +138,7 @@ pub(crate) fn add_by_texts<R: Wait + Clock + Abort>(
 }
 
 // Each series comes first before the watch starts.
-fn add_rounds<R: Wait + Clock + Abort, S: BuildHasher + Drop>(
+fn add_rounds<R: Wait + Clock + Stop, S: BuildHasher + Drop>(
     rt: &R,
     map: IndexMap<Texts, i64, S>,
     series: u32,
@@ -155,7 +154,7 @@ fn add_rounds<R: Wait + Clock + Abort, S: BuildHasher + Drop>(
 }
 
 // Makes so many additions. The last sum.
-fn add_events<R: Wait + Abort, S: BuildHasher + Drop>(
+fn add_events<R: Wait + Stop, S: BuildHasher + Drop>(
     rt: &R,
     sums: &Mutex<IndexMap<Texts, i64, S>>,
     series: u32,
@@ -170,7 +169,7 @@ fn add_events<R: Wait + Abort, S: BuildHasher + Drop>(
     last
 }
 
-fn add_one<R: Wait + Abort, S: BuildHasher + Drop>(
+fn add_one<R: Wait + Stop, S: BuildHasher + Drop>(
     rt: &R,
     sums: &Mutex<IndexMap<Texts, i64, S>>,
     texts: Texts,

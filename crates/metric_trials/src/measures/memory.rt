@@ -1,5 +1,5 @@
 //! How much memory a series takes, and a recording that is kept.
-use crate::asserted::OrFail;
+use crate::asserted::{OrFail, Stop};
 use crate::inputs::{one_of, recordings, sets, shaped_plan};
 use crate::measures::calls::{Calls, How};
 use crate::measures::cells::Instrument;
@@ -10,7 +10,6 @@ use indexmap::IndexMap;
 use metric_sdk::{Audited, SetKey};
 use std::alloc::Global;
 use std::fs;
-use std::process::Abort;
 use std::rt::Files;
 use std::sync::Wait;
 
@@ -40,7 +39,7 @@ fn floor_of(name: &'static str, bytes: u64, count: u32) -> Floor {
     }
 }
 
-fn print_bytes<R: Print + Abort>(
+fn print_bytes<R: Print + Stop>(
     rt: &R,
     name: &'static str,
     unit: &'static str,
@@ -60,7 +59,7 @@ fn print_bytes<R: Print + Abort>(
 /// Measures the memory of series: of each kind, and beside it that of a map of as many set keys to numbers. It is
 /// the memory that the process has in use, before there was an instrument and after its series came, so this is
 /// measured first, and all that is measured is kept to the end, since memory that is given back may stay in use.
-pub(crate) fn measure<R: Files + Print + AllocGlobal + Wait + Abort>(rt: &R, alloc: Global) {
+pub(crate) fn measure<R: Files + Print + AllocGlobal + Wait + Stop>(rt: &R, alloc: Global) {
     let sets = sets(rt, alloc, SERIES);
     let before = in_use(rt);
     let _map: IndexMap<SetKey, u64> = map_of(rt, alloc, &sets);
@@ -73,7 +72,7 @@ pub(crate) fn measure<R: Files + Print + AllocGlobal + Wait + Abort>(rt: &R, all
     measure_kept(rt, alloc);
 }
 
-fn measure_kinds<R: Files + Print + AllocGlobal + Abort>(
+fn measure_kinds<R: Files + Print + AllocGlobal + Stop>(
     rt: &R,
     alloc: Global,
     is_dense: bool,
@@ -93,7 +92,7 @@ fn measure_kinds<R: Files + Print + AllocGlobal + Abort>(
 }
 
 // Measures what each recording takes over books that keep it, beside a list of as many set keys and values.
-fn measure_kept<R: Files + Print + AllocGlobal + Wait + Abort>(rt: &R, alloc: Global) {
+fn measure_kept<R: Files + Print + AllocGlobal + Wait + Stop>(rt: &R, alloc: Global) {
     let before = in_use(rt);
     let recordings = recordings(rt, alloc, KEPT, KEPT_SERIES);
     let bytes = in_use_since(rt, before);
@@ -115,12 +114,12 @@ fn measure_kept<R: Files + Print + AllocGlobal + Wait + Abort>(rt: &R, alloc: Gl
     print_bytes(rt, name, "B a recording", KEPT, floor, bytes);
 }
 
-fn in_use_since<R: Files + AllocGlobal + Abort>(rt: &R, before: u64) -> u64 {
+fn in_use_since<R: Files + AllocGlobal + Stop>(rt: &R, before: u64) -> u64 {
     in_use(rt).saturating_sub(before)
 }
 
 // How many bytes the process has in use.
-fn in_use<R: Files + AllocGlobal + Abort>(rt: &R) -> u64 {
+fn in_use<R: Files + AllocGlobal + Stop>(rt: &R) -> u64 {
     let text = fs::read_to_string(rt, "/proc/self/statm").or_fail(rt);
     let word = text.as_str().split_ascii_whitespace().nth(1).or_fail(rt);
     word.parse::<u64>().or_fail(rt).saturating_mul(PAGE)

@@ -1,5 +1,5 @@
 //! What recordings and collections cost: with set keys in hand, and by a seat.
-use crate::asserted::OrFail;
+use crate::asserted::{OrFail, Stop};
 use crate::inputs::recordings;
 use crate::measures::calls::{Calls, How, LIST};
 use crate::measures::cells::Instrument;
@@ -9,7 +9,6 @@ use crate::measures::works::{Act, Case};
 use crate::seats::{Seats, seats_of};
 use metric_history::Book;
 use std::alloc::Global;
-use std::process::Abort;
 use std::sync::Wait;
 use std::time::Clock;
 
@@ -23,7 +22,7 @@ fn count_rounds(case: &Case, rounds: u32, count: u32, watch: &mut Watch) {
 }
 
 // The instrument after so many rounds.
-fn instrument_of<R: Abort>(rt: &R, alloc: Global, case: &Case, before: u32) -> Instrument {
+fn instrument_of<R: Stop>(rt: &R, alloc: Global, case: &Case, before: u32) -> Instrument {
     let recordings = recordings(rt, alloc, case.size, case.size);
     let plan = case.plan(rt, alloc);
     let mut instrument = Instrument::new(rt, alloc, &plan, recordings);
@@ -32,7 +31,7 @@ fn instrument_of<R: Abort>(rt: &R, alloc: Global, case: &Case, before: u32) -> I
 }
 
 /// Records with set keys in hand, after so many rounds.
-pub(crate) fn record_in_cell<R: Clock + Abort>(
+pub(crate) fn record_in_cell<R: Clock + Stop>(
     rt: &R,
     alloc: Global,
     case: &Case,
@@ -53,7 +52,7 @@ pub(crate) fn record_in_cell<R: Clock + Abort>(
 }
 
 /// Collects the points of an instrument, which is one operation, however many there are.
-pub(crate) fn collect_once<R: Clock + Abort>(
+pub(crate) fn collect_once<R: Clock + Stop>(
     rt: &R,
     alloc: Global,
     case: &Case,
@@ -68,7 +67,7 @@ pub(crate) fn collect_once<R: Clock + Abort>(
 }
 
 /// Records by a seat.
-pub(crate) fn record_by_seat<R: Wait + Clock + Abort, B: Book>(
+pub(crate) fn record_by_seat<R: Wait + Clock + Stop, B: Book>(
     rt: &R,
     alloc: Global,
     case: &Case,
@@ -94,7 +93,7 @@ pub(crate) fn record_by_seat<R: Wait + Clock + Abort, B: Book>(
 }
 
 // Each series comes first before the watch starts, where it is to be held.
-fn repeat_by_seat<R: Wait + Clock + Abort, B: Book>(
+fn repeat_by_seat<R: Wait + Clock + Stop, B: Book>(
     rt: &R,
     mut seats: Seats<B>,
     calls: Calls<'_>,

@@ -1,5 +1,5 @@
 //! What it costs to replay a script.
-use crate::asserted::{OrFail, hold};
+use crate::asserted::{OrFail, Stop, hold};
 use crate::inputs::{catalogue, config, counters};
 use crate::measures::checking::{RECORDERS, SOME_VALUES};
 use crate::measures::watch::Watch;
@@ -7,7 +7,6 @@ use crate::measures::works::Case;
 use metric_kit_commands::{ReplayOptions, replay};
 use metric_sdk::{CutSink, CutSource};
 use std::alloc::Global;
-use std::process::Abort;
 use std::time::Clock;
 
 // How many recordings come before each collection.
@@ -19,7 +18,7 @@ const INSTRUMENTS: u32 = 4;
 const ATTRIBUTES: &str = " \"key.0\"=\"value.0\" \"key.1\"=\"value.1\" \"key.2\"=\"value.7\"\n";
 
 /// Replays a script of so many events. How many bytes it writes.
-pub(crate) fn replay_once<R: Clock + Abort>(
+pub(crate) fn replay_once<R: Clock + Stop>(
     rt: &R,
     alloc: Global,
     case: &Case,
@@ -40,7 +39,7 @@ pub(crate) fn replay_once<R: Clock + Abort>(
     sink.taken().len() as u64
 }
 
-fn input<R: Abort>(rt: &R, alloc: Global, count: u32) -> String {
+fn input<R: Stop>(rt: &R, alloc: Global, count: u32) -> String {
     let shape = counters(INSTRUMENTS, 3, SOME_VALUES, RECORDERS);
     let catalogue = catalogue(rt, alloc, &shape);
     let config = config(rt, alloc, 2, 0);
@@ -54,7 +53,7 @@ fn input<R: Abort>(rt: &R, alloc: Global, count: u32) -> String {
     out
 }
 
-fn push_event<R: Abort>(rt: &R, out: &mut String, number: u32) {
+fn push_event<R: Stop>(rt: &R, out: &mut String, number: u32) {
     let instrument = number % INSTRUMENTS;
     if number % BETWEEN == BETWEEN - 1 {
         let reader = number / BETWEEN % 2;

@@ -1,6 +1,5 @@
 //! The table of what was measured.
-use crate::asserted::OrFail;
-use std::process::Abort;
+use crate::asserted::{OrFail, Stop};
 
 /// What a figure counts.
 #[derive(Clone, Copy)]
@@ -63,19 +62,19 @@ pub(crate) fn each(all: u64, operations: u64) -> u64 {
 }
 
 /// Prints the first line of a part: its title, and what a size counts in it.
-pub(crate) fn print_title<R: Print + Abort>(rt: &R, title: &str, size: &str) {
+pub(crate) fn print_title<R: Print + Stop>(rt: &R, title: &str, size: &str) {
     let columns = "      figure  unit                             floor    times  beside";
     println!(rt; "\n{title:<42}{size:>12}{columns}").or_fail(rt);
 }
 
 /// Prints a line, by what one operation takes, in thousandths.
-pub(crate) fn print_row<R: Print + Abort>(rt: &R, row: &Row, floor: Floor, each: u64) {
+pub(crate) fn print_row<R: Print + Stop>(rt: &R, row: &Row, floor: Floor, each: u64) {
     print_start(rt, row, floor, each);
     println!(rt; "").or_fail(rt);
 }
 
 /// Prints a line with the range that its figure is of.
-pub(crate) fn print_spread<R: Print + Abort>(rt: &R, row: &Row, floor: Floor, range: [u64; 3]) {
+pub(crate) fn print_spread<R: Print + Stop>(rt: &R, row: &Row, floor: Floor, range: [u64; 3]) {
     print_start(rt, row, floor, range[1]);
     let (least, most) = (row.unit.figure(range[0]), row.unit.figure(range[2]));
     println!(rt;
@@ -90,7 +89,7 @@ pub(crate) fn print_spread<R: Print + Abort>(rt: &R, row: &Row, floor: Floor, ra
 
 // A line without its end: what was measured, its size, the figure and its unit, that of the floor, how many times the
 // floor it is, and what the floor is.
-fn print_start<R: Print + Abort>(rt: &R, row: &Row, floor: Floor, each: u64) {
+fn print_start<R: Print + Stop>(rt: &R, row: &Row, floor: Floor, each: u64) {
     let name = if row.operations == 1 {
         row.unit.once
     } else {
@@ -105,7 +104,7 @@ fn print_start<R: Print + Abort>(rt: &R, row: &Row, floor: Floor, each: u64) {
 }
 
 // A number of hundredths, with so many places for the whole ones.
-fn print_hundredths<R: Print + Abort>(rt: &R, hundredths: u64, width: usize) {
+fn print_hundredths<R: Print + Stop>(rt: &R, hundredths: u64, width: usize) {
     let (whole, rest) = (hundredths / 100, hundredths % 100);
     print!(rt; "{whole:>width$}.{rest:02}").or_fail(rt);
 }

@@ -1,12 +1,11 @@
 //! What several threads do at once.
-use crate::asserted::OrFail;
+use crate::asserted::{OrFail, Stop, hold};
 use crate::measures::calls::{Calls, How};
 use crate::measures::floors::add_all;
 use crate::measures::points::number_of;
 use crate::measures::watch::Watch;
 use metric_sdk::{Batch, Collector, MeterProvider, Recorder};
 use std::alloc::Global;
-use std::process::Abort;
 use std::sync::atomic::{AtomicBool, AtomicU64, Ordering};
 use std::sync::{Mutex, Wait};
 use std::thread;
@@ -76,7 +75,7 @@ impl<'a> Runner<'a> {
     }
 
     // Does the task, once all threads have started.
-    fn run<R: Wait + Clock + Abort>(&mut self, rt: &R, race: &Race) {
+    fn run<R: Wait + Clock + Stop>(&mut self, rt: &R, race: &Race) {
         race.wait_for_all();
         let watch = Watch::new(rt, 0);
         let number = self.task.work(rt, race);
@@ -91,7 +90,7 @@ impl<'a> Runner<'a> {
 
 impl Task<'_> {
     // Does it. A number that depends on all of it.
-    fn work<R: Wait + Abort>(&mut self, rt: &R, race: &Race) -> u64 {
+    fn work<R: Wait + Stop>(&mut self, rt: &R, race: &Race) -> u64 {
         match self {
             Task::Record(provider, recorder, calls) if calls.how == How::Attributes => {
                 calls.record_until(rt, *provider, recorder, race.events, &race.is_over)
@@ -109,7 +108,7 @@ impl Task<'_> {
 }
 
 // Collects, and then tells the others that it is over. A number that depends on all points.
-fn collect<R: Wait + Abort>(
+fn collect<R: Wait + Stop>(
     rt: &R,
     provider: &MeterProvider,
     collector: &mut Collector,
@@ -133,7 +132,7 @@ fn number_of_all(batches: &[Batch]) -> u64 {
 }
 
 // Lets each runner do its task in a thread of its own. The time of the one that takes longest.
-fn run_all<R: Threads + Wait + Clock + Sync + Abort>(
+fn run_all<R: Threads + Wait + Clock + Sync + Stop>(
     rt: &R,
     alloc: Global,
     runners: &mut Vec<Runner<'_>>,
@@ -141,7 +140,7 @@ fn run_all<R: Threads + Wait + Clock + Sync + Abort>(
     tally: &mut u64,
 ) -> u64 {
     let count = runners.len();
-    assert!(rt; count > 0);
+    hold(rt, count > 0, "a seat is there");
     let race = Race {
         alloc,
         threads: count as u64,
@@ -165,7 +164,7 @@ fn run_all<R: Threads + Wait + Clock + Sync + Abort>(
 }
 
 /// The least, the middle and the greatest of the times that the tasks take together, so many times each.
-pub(crate) fn times_together<R: Threads + Wait + Clock + Sync + Abort>(
+pub(crate) fn times_together<R: Threads + Wait + Clock + Sync + Stop>(
     rt: &R,
     alloc: Global,
     mut runners: Vec<Runner<'_>>,

@@ -1,5 +1,5 @@
 //! What recordings cost that several threads make at once, and a collection beside them.
-use crate::asserted::OrFail;
+use crate::asserted::{OrFail, Stop};
 use crate::inputs::{counters, recordings, shaped_plan, values_for};
 use crate::measures::calls::{Calls, How};
 use crate::measures::table::{
@@ -12,7 +12,6 @@ use crate::seats::{Seats, seats_of};
 use crossbeam_utils::CachePadded;
 use metric_sdk::{Marked, Measurement};
 use std::alloc::Global;
-use std::process::Abort;
 use std::sync::{Mutex, Wait};
 use std::thread::Threads;
 use std::time::Clock;
@@ -113,7 +112,7 @@ const COLLECTED: Sharing = Sharing {
 };
 
 /// Measures recordings of threads, and collections beside them.
-pub(crate) fn measure<R: Print + Threads + Wait + Clock + Sync + Abort>(
+pub(crate) fn measure<R: Print + Threads + Wait + Clock + Sync + Stop>(
     rt: &R,
     alloc: Global,
     words: &Words<'_>,
@@ -151,7 +150,7 @@ fn row_of(name: &'static str, unit: &'static str, threads: u32) -> Row {
     }
 }
 
-fn measure_collections<R: Print + Threads + Wait + Clock + Sync + Abort>(
+fn measure_collections<R: Print + Threads + Wait + Clock + Sync + Stop>(
     rt: &R,
     alloc: Global,
     floor: Floor,
@@ -172,7 +171,7 @@ struct Figures {
     lock: u64,
 }
 
-fn measure_sharing<R: Print + Threads + Wait + Clock + Sync + Abort>(
+fn measure_sharing<R: Print + Threads + Wait + Clock + Sync + Stop>(
     rt: &R,
     alloc: Global,
     words: &Words<'_>,
@@ -191,7 +190,7 @@ fn measure_sharing<R: Print + Threads + Wait + Clock + Sync + Abort>(
 }
 
 // A line of the time of a recording, and one of how many recordings are made beside one thread.
-fn print_figures<R: Print + Abort>(
+fn print_figures<R: Print + Stop>(
     rt: &R,
     sharing: &Sharing,
     one: &Figures,
@@ -218,7 +217,7 @@ fn times(one: u64, several: u64, threads: u32) -> u64 {
     scaled(one, u64::from(threads) * 1000, several)
 }
 
-fn figures_of<R: Threads + Wait + Clock + Sync + Abort>(
+fn figures_of<R: Threads + Wait + Clock + Sync + Stop>(
     rt: &R,
     alloc: Global,
     events: u32,
@@ -240,7 +239,7 @@ fn figures_of<R: Threads + Wait + Clock + Sync + Abort>(
 }
 
 // So many recordings, or collections, beside so many threads, once each series of the first instrument is held.
-fn seats_measured<R: Threads + Wait + Clock + Sync + Abort>(
+fn seats_measured<R: Threads + Wait + Clock + Sync + Stop>(
     rt: &R,
     alloc: Global,
     events: u32,
@@ -279,7 +278,7 @@ fn calls_of<'a>(sharing: &Sharing, recorder: u32, recordings: &'a [Measurement])
 }
 
 // A provider with as many recorders and instruments, and one more, whose last recorder has recorded each series.
-fn held_seats<R: Wait + Abort>(
+fn held_seats<R: Wait + Stop>(
     rt: &R,
     alloc: Global,
     sharing: &Sharing,
@@ -296,7 +295,7 @@ fn held_seats<R: Wait + Abort>(
 }
 
 // Additions of so many threads, each under a lock of its own or all under one.
-fn lock_measured<R: Threads + Wait + Clock + Sync + Abort>(
+fn lock_measured<R: Threads + Wait + Clock + Sync + Stop>(
     rt: &R,
     alloc: Global,
     events: u32,
@@ -313,7 +312,7 @@ fn lock_measured<R: Threads + Wait + Clock + Sync + Abort>(
     times_together(rt, alloc, runners, events, tally)
 }
 
-fn adders_of<'a, R: Abort>(
+fn adders_of<'a, R: Stop>(
     rt: &R,
     alloc: Global,
     sums: &'a [CachePadded<Mutex<u64>>],

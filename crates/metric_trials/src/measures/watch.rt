@@ -1,6 +1,5 @@
 //! How long work takes, and what came of it.
-use crate::asserted::OrFail;
-use std::process::Abort;
+use crate::asserted::{OrFail, Stop};
 use std::time::{Clock, Instant};
 
 /// What came of measured work.
@@ -27,7 +26,7 @@ pub(crate) struct Watch {
 
 impl Watch {
     /// Started now, for work on a size.
-    pub(crate) fn new<R: Clock + Abort>(rt: &R, size: u32) -> Watch {
+    pub(crate) fn new<R: Clock + Stop>(rt: &R, size: u32) -> Watch {
         Watch {
             start: Instant::now(rt).or_fail(rt),
             told: Measured {
@@ -58,18 +57,18 @@ impl Watch {
     }
 
     /// Starts once more: what was before is not measured.
-    pub(crate) fn start<R: Clock + Abort>(&mut self, rt: &R) {
+    pub(crate) fn start<R: Clock + Stop>(&mut self, rt: &R) {
         self.start = Instant::now(rt).or_fail(rt);
     }
 
     /// Stops: what comes is not measured.
-    pub(crate) fn stop<R: Clock + Abort>(&mut self, rt: &R) {
+    pub(crate) fn stop<R: Clock + Stop>(&mut self, rt: &R) {
         let took = self.start.elapsed(rt).or_fail(rt);
         self.told.nanoseconds = u64::try_from(took.as_nanos()).unwrap_or(u64::MAX).max(1);
     }
 
     /// What came of the work, by its number.
-    pub(crate) fn told<R: Clock + Abort>(mut self, rt: &R, number: u64) -> Measured {
+    pub(crate) fn told<R: Clock + Stop>(mut self, rt: &R, number: u64) -> Measured {
         if self.told.nanoseconds == 0 {
             self.stop(rt);
         }

@@ -1,6 +1,7 @@
 //! The works that are measured, and the least time that each takes.
 ghost use Rattle.std.specs.Prelude.{IsTrue};
 
+use crate::asserted::Stop;
 use crate::inputs::{one_of, shaped_plan};
 use crate::measures::calls::How;
 use crate::measures::encoding::Format;
@@ -9,7 +10,6 @@ use crate::measures::watch::{Measured, Watch};
 use crate::measures::{audits, checking, combined, encoding, floors, recording, replaying};
 use metric_sdk::{Audited, Marked, Plan};
 use std::alloc::Global;
-use std::process::Abort;
 use std::sync::Wait;
 use std::time::Clock;
 
@@ -73,7 +73,7 @@ pub(crate) struct Case {
 
 impl Case {
     /// The certified plan of its instrument.
-    pub(crate) fn plan<R: Abort>(&self, rt: &R, alloc: Global) -> Plan
+    pub(crate) fn plan<R: Stop>(&self, rt: &R, alloc: Global) -> Plan
         ensures { IsTrue result.is_certified }
     {
         let shape = one_of(self.kind, self.size, self.is_dense);
@@ -86,7 +86,7 @@ impl Case {
     }
 
     // Does it. A number that depends on all of it.
-    fn done<R: Wait + Clock + Abort>(&self, rt: &R, alloc: Global, watch: &mut Watch) -> u64 {
+    fn done<R: Wait + Clock + Stop>(&self, rt: &R, alloc: Global, watch: &mut Watch) -> u64 {
         match self.act {
             Act::LookUp => floors::look_up_sets(rt, alloc, self, watch),
             Act::Place => floors::add_at_places(rt, alloc, self, watch),
@@ -121,7 +121,7 @@ const AT_MOST: u32 = 7;
 const ENOUGH: u64 = 300_000_000;
 
 /// What came of work, in the least time that it takes.
-pub(crate) fn least<R: Wait + Clock + Abort>(rt: &R, alloc: Global, case: &Case) -> Measured {
+pub(crate) fn least<R: Wait + Clock + Stop>(rt: &R, alloc: Global, case: &Case) -> Measured {
     let mut least = measured(rt, alloc, case);
     let mut spent = least.nanoseconds;
     for repetition in 1..AT_MOST {
@@ -136,7 +136,7 @@ pub(crate) fn least<R: Wait + Clock + Abort>(rt: &R, alloc: Global, case: &Case)
     least
 }
 
-fn measured<R: Wait + Clock + Abort>(rt: &R, alloc: Global, case: &Case) -> Measured {
+fn measured<R: Wait + Clock + Stop>(rt: &R, alloc: Global, case: &Case) -> Measured {
     let mut watch = Watch::new(rt, case.size);
     let number = case.done(rt, alloc, &mut watch);
     watch.told(rt, number)

@@ -1,21 +1,20 @@
 //! What calls answered.
-use crate::asserted::OrFail;
+use crate::asserted::{OrFail, Stop};
 use std::alloc::Global;
 use std::fmt::{Debug, Display};
-use std::process::Abort;
 
 /// Adds a text.
-pub(crate) fn push<R: Abort>(rt: &R, out: &mut String, text: &str) {
+pub(crate) fn push<R: Stop>(rt: &R, out: &mut String, text: &str) {
     out.push_str(text).or_fail(rt);
 }
 
 /// Adds a line: a word, and what is told behind it.
-pub(crate) fn push_line<R: Abort, D: Display>(rt: &R, out: &mut String, word: &str, what: &D) {
+pub(crate) fn push_line<R: Stop, D: Display>(rt: &R, out: &mut String, word: &str, what: &D) {
     writeln!(out, "{word} {what}").or_fail(rt);
 }
 
 /// Adds a line for each of a list.
-pub(crate) fn push_each<R: Abort, D: Debug>(rt: &R, out: &mut String, list: &[D]) {
+pub(crate) fn push_each<R: Stop, D: Debug>(rt: &R, out: &mut String, list: &[D]) {
     for one in list {
         writeln!(out, "{one:?}").or_fail(rt);
     }

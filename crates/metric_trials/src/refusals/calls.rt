@@ -1,4 +1,5 @@
 //! The calls, by their words.
+use crate::asserted::Stop;
 use crate::refusals::answers::Answers;
 use crate::refusals::words::{BookName, Call, Words};
 use crate::refusals::{certificates, collections, cores, ends, recordings, replays};
@@ -6,11 +7,10 @@ use metric_history::Book;
 use metric_journal::JournalBook;
 use metric_sdk::{Audited, Marked};
 use std::alloc::Global;
-use std::process::Abort;
 use std::sync::Wait;
 
 /// What the call answers that the words name.
-pub(crate) fn answers_of<R: Wait + Abort>(rt: &R, alloc: Global, words: &Words) -> Answers {
+pub(crate) fn answers_of<R: Wait + Stop>(rt: &R, alloc: Global, words: &Words) -> Answers {
     let mut answers = Answers::new(alloc);
     match words.book {
         BookName::Journal => answer::<R, JournalBook>(&mut answers, rt, alloc, words),
@@ -20,7 +20,7 @@ pub(crate) fn answers_of<R: Wait + Abort>(rt: &R, alloc: Global, words: &Words) 
     answers
 }
 
-fn answer<R: Wait + Abort, B: Book>(answers: &mut Answers, rt: &R, alloc: Global, words: &Words) {
+fn answer<R: Wait + Stop, B: Book>(answers: &mut Answers, rt: &R, alloc: Global, words: &Words) {
     match words.call {
         Call::Make => certificates::answer_make(answers, rt, alloc, words.data),
         Call::Write => certificates::answer_write(answers, rt, alloc, words.data),

@@ -1,5 +1,5 @@
 //! The calls that lead to a plan.
-use crate::asserted::OrFail;
+use crate::asserted::{OrFail, Stop};
 use crate::mark::mark;
 use crate::refusals::answers::{Answers, push, push_line};
 use crate::refusals::inputs::Data;
@@ -7,13 +7,12 @@ use crate::refusals::prepared::{Declared, certificate_of, declared_of};
 use metric_sdk::{Catalogue, Certificate, CheckFault, Config, Plan, check, make};
 use std::alloc::{AllocError, Global};
 use std::fmt::Display;
-use std::process::Abort;
 
 // A plan, or what was handed in and the fault.
 type Checked = Result<Plan, (Catalogue, Config, CheckFault)>;
 
 /// Makes a certificate.
-pub(crate) fn answer_make<R: Abort>(answers: &mut Answers, rt: &R, alloc: Global, data: &Data) {
+pub(crate) fn answer_make<R: Stop>(answers: &mut Answers, rt: &R, alloc: Global, data: &Data) {
     let declared = declared_of(rt, alloc, data);
     mark(alloc);
     let first = make(alloc, &declared.catalogue, &declared.config);
@@ -24,7 +23,7 @@ pub(crate) fn answer_make<R: Abort>(answers: &mut Answers, rt: &R, alloc: Global
 }
 
 /// Reads a certificate.
-pub(crate) fn answer_read<R: Abort>(answers: &mut Answers, rt: &R, alloc: Global, data: &Data) {
+pub(crate) fn answer_read<R: Stop>(answers: &mut Answers, rt: &R, alloc: Global, data: &Data) {
     let text = certificate_of(rt, alloc, data).write(alloc).or_fail(rt);
     mark(alloc);
     let first = Certificate::read(alloc, &text);
@@ -34,7 +33,7 @@ pub(crate) fn answer_read<R: Abort>(answers: &mut Answers, rt: &R, alloc: Global
     push_certificate(rt, &mut answers.second, alloc, second);
 }
 
-fn push_certificate<R: Abort, E: Display + Drop>(
+fn push_certificate<R: Stop, E: Display + Drop>(
     rt: &R,
     out: &mut String,
     alloc: Global,
@@ -47,7 +46,7 @@ fn push_certificate<R: Abort, E: Display + Drop>(
 }
 
 /// Writes a certificate.
-pub(crate) fn answer_write<R: Abort>(answers: &mut Answers, rt: &R, alloc: Global, data: &Data) {
+pub(crate) fn answer_write<R: Stop>(answers: &mut Answers, rt: &R, alloc: Global, data: &Data) {
     let certificate = certificate_of(rt, alloc, data);
     mark(alloc);
     let first = certificate.write(alloc);
@@ -56,7 +55,7 @@ pub(crate) fn answer_write<R: Abort>(answers: &mut Answers, rt: &R, alloc: Globa
     push_written(rt, &mut answers.second, certificate.write(alloc));
 }
 
-fn push_written<R: Abort>(rt: &R, out: &mut String, answer: Result<String, AllocError>) {
+fn push_written<R: Stop>(rt: &R, out: &mut String, answer: Result<String, AllocError>) {
     match answer {
         Ok(text) => push(rt, out, &text),
         Err(_) => push(rt, out, "fault memory\n"),
@@ -64,7 +63,7 @@ fn push_written<R: Abort>(rt: &R, out: &mut String, answer: Result<String, Alloc
 }
 
 /// Checks a certificate.
-pub(crate) fn answer_check<R: Abort>(answers: &mut Answers, rt: &R, alloc: Global, data: &Data) {
+pub(crate) fn answer_check<R: Stop>(answers: &mut Answers, rt: &R, alloc: Global, data: &Data) {
     let certificate = certificate_of(rt, alloc, data);
     let declared = declared_of(rt, alloc, data);
     mark(alloc);
@@ -85,7 +84,7 @@ fn checked(alloc: Global, declared: Declared, certificate: &Certificate) -> Chec
 }
 
 /// Tries a catalogue and a config without a certificate.
-pub(crate) fn answer_trial<R: Abort>(answers: &mut Answers, rt: &R, alloc: Global, data: &Data) {
+pub(crate) fn answer_trial<R: Stop>(answers: &mut Answers, rt: &R, alloc: Global, data: &Data) {
     let Declared { catalogue, config } = declared_of(rt, alloc, data);
     mark(alloc);
     let first = Plan::trial(alloc, catalogue, config);
@@ -97,7 +96,7 @@ pub(crate) fn answer_trial<R: Abort>(answers: &mut Answers, rt: &R, alloc: Globa
 }
 
 // What a plan has, or else what was handed back.
-fn push_plan<R: Abort>(rt: &R, out: &mut String, answer: Checked) -> Option<Declared> {
+fn push_plan<R: Stop>(rt: &R, out: &mut String, answer: Checked) -> Option<Declared> {
     match answer {
         Ok(plan) => {
             let (count, certified) = (plan.streams().len(), plan.is_certified());

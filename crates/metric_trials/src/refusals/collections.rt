@@ -1,5 +1,5 @@
 //! Collections by a reader's seat.
-use crate::asserted::OrFail;
+use crate::asserted::{OrFail, Stop};
 use crate::mark::mark;
 use crate::refusals::answers::Answers;
 use crate::refusals::playing::{data_seats, play, played, played_seats, push_state};
@@ -10,14 +10,13 @@ use crate::seats::Seats;
 use metric_history::{Book, Event};
 use metric_sdk::{AllFault, Collector, NoGate, Plan, Provider};
 use std::alloc::Global;
-use std::process::Abort;
 use std::sync::Wait;
 
 // When all instruments are collected, later than any event of a script.
 const LATE: u64 = 500_000;
 
 /// Makes the last collection of the script after what stands before it.
-pub(crate) fn answer_collect<R: Wait + Abort, B: Book>(
+pub(crate) fn answer_collect<R: Wait + Stop, B: Book>(
     answers: &mut Answers,
     rt: &R,
     alloc: Global,
@@ -57,7 +56,7 @@ fn last_collection(events: &[Event]) -> (&[Event], Option<&Event>) {
 }
 
 /// Collects all instruments by the last reader after the script; those that are left are then collected one by one.
-pub(crate) fn answer_collect_all<R: Wait + Abort, B: Book>(
+pub(crate) fn answer_collect_all<R: Wait + Stop, B: Book>(
     answers: &mut Answers,
     rt: &R,
     alloc: Global,
@@ -89,7 +88,7 @@ pub(crate) fn answer_collect_all<R: Wait + Abort, B: Book>(
 }
 
 /// Ends the last reader after the script; where it is refused, what is left is collected one by one.
-pub(crate) fn answer_shutdown<R: Wait + Abort, B: Book>(
+pub(crate) fn answer_shutdown<R: Wait + Stop, B: Book>(
     answers: &mut Answers,
     rt: &R,
     alloc: Global,
@@ -119,7 +118,7 @@ pub(crate) fn answer_shutdown<R: Wait + Abort, B: Book>(
 }
 
 // Adds what a collection of all instruments answered that was refused midway. How many batches there are.
-fn push_fault<R: Abort>(
+fn push_fault<R: Stop>(
     rt: &R,
     out: &mut String,
     alloc: Global,
@@ -133,7 +132,7 @@ fn push_fault<R: Abort>(
 }
 
 // Collects the instruments after so many, one by one.
-fn push_left<R: Wait + Abort, B: Book>(
+fn push_left<R: Wait + Stop, B: Book>(
     rt: &R,
     out: &mut String,
     alloc: Global,

@@ -1,5 +1,5 @@
 //! The calls of a core and of the cell of an instrument.
-use crate::asserted::OrFail;
+use crate::asserted::{OrFail, Stop, hold};
 use crate::mark::mark;
 use crate::refusals::answers::{Answers, push};
 use crate::refusals::inputs::Data;
@@ -11,10 +11,9 @@ use metric_core::{Cell, Core};
 use metric_history::{Book, Reply};
 use metric_sdk::Plan;
 use std::alloc::{AllocError, Global};
-use std::process::Abort;
 
 /// Makes a core, and runs the script on it.
-pub(crate) fn answer_new<R: Abort, B: Book>(
+pub(crate) fn answer_new<R: Stop, B: Book>(
     answers: &mut Answers,
     rt: &R,
     alloc: Global,
@@ -40,7 +39,7 @@ pub(crate) fn answer_new<R: Abort, B: Book>(
 }
 
 // What the script is answered.
-fn push_script<R: Abort, B: Book>(
+fn push_script<R: Stop, B: Book>(
     rt: &R,
     out: &mut String,
     alloc: Global,
@@ -52,7 +51,7 @@ fn push_script<R: Abort, B: Book>(
 }
 
 /// Runs the script, but the event that the words leave out, and then all of it again.
-pub(crate) fn answer_run<R: Abort, B: Book>(
+pub(crate) fn answer_run<R: Stop, B: Book>(
     answers: &mut Answers,
     rt: &R,
     alloc: Global,
@@ -70,7 +69,7 @@ pub(crate) fn answer_run<R: Abort, B: Book>(
     }
 }
 
-fn push_ran<R: Abort>(
+fn push_ran<R: Stop>(
     rt: &R,
     out: &mut String,
     alloc: Global,
@@ -84,23 +83,23 @@ fn push_ran<R: Abort>(
 }
 
 /// Grants the first recorder a recording of the first instrument's spare budget.
-pub(crate) fn answer_grant<R: Abort, B: Book>(
+pub(crate) fn answer_grant<R: Stop, B: Book>(
     answers: &mut Answers,
     rt: &R,
     alloc: Global,
     words: &Words,
 ) {
     let plan = data_plan(rt, alloc, words.data);
-    assert!(rt; plan.all_facts().len() > 0);
+    hold(rt, plan.all_facts().len() > 0, "an instrument is there");
     let mut cell: Cell<B> = Cell::new(alloc, &plan, 0, START).or_fail(rt);
-    assert!(rt; cell.facts().budgets.len() > 0);
+    hold(rt, cell.facts().budgets.len() > 0, "a recorder is there");
     mark(alloc);
     let first = cell.grant(0, 1);
     mark(alloc);
     let first = reply_to(first, Reply::Granted);
     push_reply(rt, &mut answers.first, alloc, &plan, &first);
     if !words.is_once {
-        assert!(rt; cell.facts().budgets.len() > 0);
+        hold(rt, cell.facts().budgets.len() > 0, "a recorder is there");
         let second = reply_to(cell.grant(0, 1), Reply::Granted);
         push_reply(rt, &mut answers.second, alloc, &plan, &second);
     }

@@ -1,5 +1,5 @@
 //! The end of a provider, and the audit of what it comes to.
-use crate::asserted::OrFail;
+use crate::asserted::{OrFail, Stop};
 use crate::mark::mark;
 use crate::refusals::answers::{Answers, push, push_each, push_line};
 use crate::refusals::inputs::Data;
@@ -11,7 +11,6 @@ use metric_sdk::{
     AuditFault, Audited, Batch, FinishFault, Items, NoGate, Provider, Recorder, Slip, Totals,
 };
 use std::alloc::Global;
-use std::process::Abort;
 use std::sync::Wait;
 
 // What is handed back where a provider is not finished.
@@ -21,7 +20,7 @@ type Back<B> = (Provider<B, NoGate>, Vec<Recorder>);
 type Finished<B> = Result<Totals, (Provider<B, NoGate>, Vec<Recorder>, FinishFault)>;
 
 /// Ends a provider after the script.
-pub(crate) fn answer_finish<R: Wait + Abort, B: Book>(
+pub(crate) fn answer_finish<R: Wait + Stop, B: Book>(
     answers: &mut Answers,
     rt: &R,
     alloc: Global,
@@ -39,7 +38,7 @@ pub(crate) fn answer_finish<R: Wait + Abort, B: Book>(
 }
 
 // What the totals are, or else what was handed back.
-fn push_finished<R: Abort, B: Book>(
+fn push_finished<R: Stop, B: Book>(
     rt: &R,
     out: &mut String,
     answer: Finished<B>,
@@ -57,7 +56,7 @@ fn push_finished<R: Abort, B: Book>(
 }
 
 // Adds the total of each instrument, its journal, and the slips of each recorder.
-fn push_totals<R: Abort>(rt: &R, out: &mut String, totals: &Totals) {
+fn push_totals<R: Stop>(rt: &R, out: &mut String, totals: &Totals) {
     push_each(rt, out, &totals.instruments);
     for journal in &totals.journals {
         push_each(rt, out, journal.as_slice());
@@ -67,7 +66,7 @@ fn push_totals<R: Abort>(rt: &R, out: &mut String, totals: &Totals) {
     }
 }
 
-fn push_slips<R: Abort>(rt: &R, out: &mut String, recorders: &[Items<Slip>]) {
+fn push_slips<R: Stop>(rt: &R, out: &mut String, recorders: &[Items<Slip>]) {
     for slips in recorders {
         push(rt, out, "recorder\n");
         push_each(rt, out, slips.as_slice());
@@ -75,7 +74,7 @@ fn push_slips<R: Abort>(rt: &R, out: &mut String, recorders: &[Items<Slip>]) {
 }
 
 /// Audits the first instrument after the script.
-pub(crate) fn answer_audit<R: Wait + Abort>(
+pub(crate) fn answer_audit<R: Wait + Stop>(
     answers: &mut Answers,
     rt: &R,
     alloc: Global,
@@ -99,7 +98,7 @@ pub(crate) fn answer_audit<R: Wait + Abort>(
 }
 
 // The batches of the first instrument among replies.
-fn first_batches<R: Abort>(rt: &R, alloc: Global, replies: Vec<Reply>) -> Vec<Batch> {
+fn first_batches<R: Stop>(rt: &R, alloc: Global, replies: Vec<Reply>) -> Vec<Batch> {
     let mut batches = Vec::new(alloc);
     for reply in replies {
         if let Reply::Collected(batch) = reply
@@ -111,7 +110,7 @@ fn first_batches<R: Abort>(rt: &R, alloc: Global, replies: Vec<Reply>) -> Vec<Ba
     batches
 }
 
-fn push_audited<R: Abort>(rt: &R, out: &mut String, answer: Result<u64, AuditFault>) {
+fn push_audited<R: Stop>(rt: &R, out: &mut String, answer: Result<u64, AuditFault>) {
     match answer {
         Ok(_) => push(rt, out, "audited\n"),
         Err(fault) => push_line(rt, out, "fault", &fault),

@@ -1,5 +1,5 @@
 //! Events that the seats of a data play.
-use crate::asserted::OrFail;
+use crate::asserted::{OrFail, Stop};
 use crate::refusals::inputs::Data;
 use crate::refusals::prepared::{all_events, data_plan};
 use crate::refusals::replies::{push_reply, reply_to, reply_with};
@@ -8,19 +8,18 @@ use metric_contents::OwnedAttr;
 use metric_history::{Book, Event, Reply};
 use metric_sdk::Attr;
 use std::alloc::Global;
-use std::process::Abort;
 use std::sync::Wait;
 
 // When its end is collected, later than any event of a script.
 const END: u64 = 1_000_000;
 
 /// The seats of a data.
-pub(crate) fn data_seats<R: Wait + Abort, B: Book>(rt: &R, alloc: Global, data: &Data) -> Seats<B> {
+pub(crate) fn data_seats<R: Wait + Stop, B: Book>(rt: &R, alloc: Global, data: &Data) -> Seats<B> {
     seats_of(rt, alloc, data_plan(rt, alloc, data), 1)
 }
 
 /// The seats of a data that have played its script.
-pub(crate) fn played_seats<R: Wait + Abort, B: Book>(
+pub(crate) fn played_seats<R: Wait + Stop, B: Book>(
     rt: &R,
     alloc: Global,
     data: &Data,
@@ -36,7 +35,7 @@ pub(crate) fn played_seats<R: Wait + Abort, B: Book>(
 }
 
 /// Plays each event. What it is answered.
-pub(crate) fn played<R: Wait + Abort, B: Book>(
+pub(crate) fn played<R: Wait + Stop, B: Book>(
     rt: &R,
     alloc: Global,
     seats: &mut Seats<B>,
@@ -51,7 +50,7 @@ pub(crate) fn played<R: Wait + Abort, B: Book>(
 }
 
 /// Plays an event of a seat, or of the provider.
-pub(crate) fn play<R: Wait + Abort, B: Book>(
+pub(crate) fn play<R: Wait + Stop, B: Book>(
     rt: &R,
     alloc: Global,
     seats: &mut Seats<B>,
@@ -91,7 +90,7 @@ pub(crate) fn play<R: Wait + Abort, B: Book>(
 }
 
 /// Attributes, borrowed.
-pub(crate) fn attributes<'a, R: Abort>(
+pub(crate) fn attributes<'a, R: Stop>(
     rt: &R,
     alloc: Global,
     owned: &'a [OwnedAttr],
@@ -106,7 +105,7 @@ pub(crate) fn attributes<'a, R: Abort>(
 }
 
 /// Adds what each reader collects of each instrument at the end.
-pub(crate) fn push_state<R: Wait + Abort, B: Book>(
+pub(crate) fn push_state<R: Wait + Stop, B: Book>(
     rt: &R,
     out: &mut String,
     alloc: Global,

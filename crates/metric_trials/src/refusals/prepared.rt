@@ -1,7 +1,7 @@
 //! What a data declares, made ready for a call.
 ghost use Rattle.std.specs.Prelude.{IsTrue};
 
-use crate::asserted::OrFail;
+use crate::asserted::{OrFail, Stop};
 use crate::refusals::inputs::Data;
 use crate::seats::plan_of;
 use metric_base::Items;
@@ -11,7 +11,6 @@ use metric_script::events_of;
 use metric_sdk::{Catalogue, Certificate, Config, Plan, make};
 use metric_text::lines;
 use std::alloc::Global;
-use std::process::Abort;
 
 const SCRIPT: Needs = Needs {
     certificate: false,
@@ -26,7 +25,7 @@ pub(crate) struct Declared {
 }
 
 /// What a data declares.
-pub(crate) fn declared_of<R: Abort>(rt: &R, alloc: Global, data: &Data) -> Declared {
+pub(crate) fn declared_of<R: Stop>(rt: &R, alloc: Global, data: &Data) -> Declared {
     Declared {
         catalogue: Catalogue::read(alloc, data.catalogue).or_fail(rt),
         config: Config::read(alloc, data.config).or_fail(rt),
@@ -34,30 +33,25 @@ pub(crate) fn declared_of<R: Abort>(rt: &R, alloc: Global, data: &Data) -> Decla
 }
 
 /// The certificate of a data.
-pub(crate) fn certificate_of<R: Abort>(rt: &R, alloc: Global, data: &Data) -> Certificate {
+pub(crate) fn certificate_of<R: Stop>(rt: &R, alloc: Global, data: &Data) -> Certificate {
     let declared = declared_of(rt, alloc, data);
     make(alloc, &declared.catalogue, &declared.config).or_fail(rt)
 }
 
 /// The certified plan of a data.
-pub(crate) fn data_plan<R: Abort>(rt: &R, alloc: Global, data: &Data) -> Plan
+pub(crate) fn data_plan<R: Stop>(rt: &R, alloc: Global, data: &Data) -> Plan
     ensures { IsTrue result.is_certified }
 {
     plan_of(rt, alloc, data.catalogue, data.config)
 }
 
 /// The events of a data's script.
-pub(crate) fn all_events<R: Abort>(rt: &R, alloc: Global, data: &Data) -> Items<Event> {
+pub(crate) fn all_events<R: Stop>(rt: &R, alloc: Global, data: &Data) -> Items<Event> {
     events_but(rt, alloc, data, 0)
 }
 
 /// The same, but the one of a number, from 1.
-pub(crate) fn events_but<R: Abort>(
-    rt: &R,
-    alloc: Global,
-    data: &Data,
-    left: usize,
-) -> Items<Event> {
+pub(crate) fn events_but<R: Stop>(rt: &R, alloc: Global, data: &Data, left: usize) -> Items<Event> {
     let input = input_but(rt, alloc, data, "", left);
     let lines = lines(alloc, input.as_bytes()).or_fail(rt);
     let parts = parts_of(alloc, &lines, SCRIPT).or_fail(rt);
@@ -66,14 +60,14 @@ pub(crate) fn events_but<R: Abort>(
 }
 
 /// The input of parts that a data is, with its certificate.
-pub(crate) fn input_of<R: Abort>(rt: &R, alloc: Global, data: &Data) -> String {
+pub(crate) fn input_of<R: Stop>(rt: &R, alloc: Global, data: &Data) -> String {
     let certificate = certificate_of(rt, alloc, data).write(alloc).or_fail(rt);
     let part = format!(in alloc; "%% certificate\n{certificate}").or_fail(rt);
     input_but(rt, alloc, data, &part, 0)
 }
 
 // The input of parts with a certificate's part, but the event of a number.
-fn input_but<R: Abort>(
+fn input_but<R: Stop>(
     rt: &R,
     alloc: Global,
     data: &Data,

@@ -1,5 +1,5 @@
 //! The start of a provider, and a recording by a seat.
-use crate::asserted::{OrFail, hold};
+use crate::asserted::{OrFail, Stop, hold};
 use crate::mark::mark;
 use crate::refusals::answers::{Answers, push};
 use crate::refusals::inputs::Data;
@@ -11,11 +11,10 @@ use crate::seats::{Seats, started};
 use metric_history::{Book, Event, Reply};
 use metric_sdk::Plan;
 use std::alloc::Global;
-use std::process::Abort;
 use std::sync::Wait;
 
 /// Starts a provider, and plays the script by its seats.
-pub(crate) fn answer_start<R: Wait + Abort, B: Book>(
+pub(crate) fn answer_start<R: Wait + Stop, B: Book>(
     answers: &mut Answers,
     rt: &R,
     alloc: Global,
@@ -32,7 +31,7 @@ pub(crate) fn answer_start<R: Wait + Abort, B: Book>(
         }
         Err(plan) => {
             push(rt, &mut answers.first, "fault memory\n");
-            assert!(rt; plan.is_certified());
+            hold(rt, plan.is_certified(), "the plan is certified");
             let seats = started(rt, alloc, plan, 1, 1).ok().or_fail(rt);
             push_seats(rt, &mut answers.second, &seats);
             seats
@@ -53,13 +52,13 @@ pub(crate) fn answer_start<R: Wait + Abort, B: Book>(
     );
 }
 
-fn push_seats<R: Abort, B: Book>(rt: &R, out: &mut String, seats: &Seats<B>) {
+fn push_seats<R: Stop, B: Book>(rt: &R, out: &mut String, seats: &Seats<B>) {
     let (recorders, readers) = (seats.recorders.len(), seats.collectors.len());
     writeln!(out, "seats of {recorders} recorders and {readers} readers").or_fail(rt);
 }
 
 /// Makes the last recording of the script after what stands before it.
-pub(crate) fn answer_record<R: Wait + Abort, B: Book>(
+pub(crate) fn answer_record<R: Wait + Stop, B: Book>(
     answers: &mut Answers,
     rt: &R,
     alloc: Global,
@@ -73,7 +72,7 @@ pub(crate) fn answer_record<R: Wait + Abort, B: Book>(
     push_state(rt, &mut answers.state, alloc, &mut seats);
 }
 
-fn record_last<R: Wait + Abort, B: Book>(
+fn record_last<R: Wait + Stop, B: Book>(
     answers: &mut Answers,
     rt: &R,
     alloc: Global,

@@ -1,5 +1,5 @@
 //! A script replayed.
-use crate::asserted::OrFail;
+use crate::asserted::{OrFail, Stop};
 use crate::mark::mark;
 use crate::refusals::answers::{Answers, push, push_line};
 use crate::refusals::inputs::Data;
@@ -7,7 +7,6 @@ use crate::refusals::prepared::input_of;
 use metric_kit_commands::{KitFault, ReplayOptions, replay};
 use metric_sdk::{CutSource, StdSink};
 use std::alloc::Global;
-use std::process::Abort;
 
 // Room for all that a replay writes, so that its sink asks for none while it is called.
 const ROOM: usize = 1_000_000;
@@ -22,7 +21,7 @@ const OPTIONS: ReplayOptions = ReplayOptions {
 type Held = StdSink<Vec<u8>>;
 
 /// Replays the input that a data is.
-pub(crate) fn answer_replay<R: Abort>(answers: &mut Answers, rt: &R, alloc: Global, data: &Data) {
+pub(crate) fn answer_replay<R: Stop>(answers: &mut Answers, rt: &R, alloc: Global, data: &Data) {
     let input = input_of(rt, alloc, data);
     let mut sink = sink_with_room(rt, alloc);
     let mut source = CutSource::new(input.as_bytes(), None);
@@ -36,12 +35,12 @@ pub(crate) fn answer_replay<R: Abort>(answers: &mut Answers, rt: &R, alloc: Glob
     push_replayed(rt, &mut answers.second, second, sink);
 }
 
-fn sink_with_room<R: Abort>(rt: &R, alloc: Global) -> Held {
+fn sink_with_room<R: Stop>(rt: &R, alloc: Global) -> Held {
     StdSink::new(Vec::with_capacity(alloc, ROOM).or_fail(rt))
 }
 
 // Adds what was written, and how the replay ended.
-fn push_replayed<R: Abort>(rt: &R, out: &mut String, answer: Result<(), KitFault>, sink: Held) {
+fn push_replayed<R: Stop>(rt: &R, out: &mut String, answer: Result<(), KitFault>, sink: Held) {
     let written = sink.into_inner();
     push(rt, out, str::from_utf8(written.as_slice()).or_fail(rt));
     match answer {

@@ -1,13 +1,12 @@
 //! The texts of replies and batches.
-use crate::asserted::{OrFail, hold};
+use crate::asserted::{OrFail, Stop, hold};
 use crate::refusals::answers::{push, push_line};
 use metric_history::Reply;
 use metric_sdk::{Batch, CutSink, Plan, Refusal, write_batch};
 use std::alloc::Global;
-use std::process::Abort;
 
 /// Adds the text of each reply.
-pub(crate) fn push_replies<R: Abort>(
+pub(crate) fn push_replies<R: Stop>(
     rt: &R,
     out: &mut String,
     alloc: Global,
@@ -20,7 +19,7 @@ pub(crate) fn push_replies<R: Abort>(
 }
 
 /// Adds the text of a reply, whose first line begins with a word that no line of a batch begins with.
-pub(crate) fn push_reply<R: Abort>(
+pub(crate) fn push_reply<R: Stop>(
     rt: &R,
     out: &mut String,
     alloc: Global,
@@ -37,7 +36,7 @@ pub(crate) fn push_reply<R: Abort>(
 }
 
 /// Adds the text of each batch.
-pub(crate) fn push_batches<R: Abort>(
+pub(crate) fn push_batches<R: Stop>(
     rt: &R,
     out: &mut String,
     alloc: Global,
@@ -49,7 +48,7 @@ pub(crate) fn push_batches<R: Abort>(
     }
 }
 
-fn push_batch<R: Abort>(rt: &R, out: &mut String, alloc: Global, plan: &Plan, batch: &Batch) {
+fn push_batch<R: Stop>(rt: &R, out: &mut String, alloc: Global, plan: &Plan, batch: &Batch) {
     let mut sink = CutSink::new(alloc, None);
     let is_written = write_batch(alloc, &mut sink, plan, batch).is_ok();
     hold(rt, is_written, "a batch is not written");

@@ -1,5 +1,5 @@
 //! What a round came to, compared.
-use crate::asserted::OrFail;
+use crate::asserted::{OrFail, Stop};
 use crate::seats::audited;
 use crate::soak::figures::{ACCEPTED, BATCHES, ENTRIES, Figures, SETTLED};
 use crate::soak::inputs::{INSTRUMENTS, check};
@@ -9,7 +9,6 @@ use metric_history::Book;
 use metric_sdk::{Batch, Kind, NoGate, Plan, Provider, Recorder, Total, Totals};
 use std::alloc::Global;
 use std::mem;
-use std::process::Abort;
 use std::sync::Wait;
 
 /// The threads of recorders and readers after their end.
@@ -21,7 +20,7 @@ pub(crate) struct Ended {
 
 /// Ends the provider, and compares its totals with what each recorder was told and what each reader saw. Where the
 /// books keep entries, all batches are audited.
-pub(crate) fn settle<R: Wait + Abort, B: Book>(
+pub(crate) fn settle<R: Wait + Stop, B: Book>(
     rt: &R,
     alloc: Global,
     provider: Provider<B, NoGate>,
@@ -54,7 +53,7 @@ pub(crate) fn settle<R: Wait + Abort, B: Book>(
 }
 
 // The seats of the recorders, with what all of them were told of each instrument.
-fn recorders_of<R: Abort>(
+fn recorders_of<R: Stop>(
     rt: &R,
     alloc: Global,
     workers: Vec<Worker>,
@@ -71,7 +70,7 @@ fn recorders_of<R: Abort>(
 }
 
 // Adds what a recorder counted, which has to be what its seat says.
-fn add_tallies<R: Abort>(
+fn add_tallies<R: Stop>(
     rt: &R,
     told: &mut [Tally; INSTRUMENTS],
     worker: &Worker,
@@ -95,7 +94,7 @@ fn add_tallies<R: Abort>(
 
 // Compares the total of an instrument with what the recorders were told and what each reader saw. Last values have no
 // sum.
-fn compare<R: Abort>(
+fn compare<R: Stop>(
     rt: &R,
     plan: &Plan,
     number: usize,
@@ -125,7 +124,7 @@ fn compare<R: Abort>(
 }
 
 // Audits the batches of both readers of each instrument.
-fn audit_all<R: Abort>(
+fn audit_all<R: Stop>(
     rt: &R,
     alloc: Global,
     plan: &Plan,
@@ -143,7 +142,7 @@ fn audit_all<R: Abort>(
 }
 
 // The batches of both readers of an instrument, which they then have no more.
-fn batches_of<R: Abort>(
+fn batches_of<R: Stop>(
     rt: &R,
     alloc: Global,
     watchers: &mut [Watcher],
@@ -157,7 +156,7 @@ fn batches_of<R: Abort>(
     batches
 }
 
-fn push_all<R: Abort>(rt: &R, batches: &mut Vec<Batch>, more: Vec<Batch>) {
+fn push_all<R: Stop>(rt: &R, batches: &mut Vec<Batch>, more: Vec<Batch>) {
     for batch in more {
         batches.push(batch).ok().or_fail(rt);
     }

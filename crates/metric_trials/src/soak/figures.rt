@@ -1,6 +1,5 @@
 //! What rounds did, in numbers.
-use crate::asserted::OrFail;
-use std::process::Abort;
+use crate::asserted::{OrFail, Stop};
 
 /// A figure, by its place.
 pub(crate) const ROUNDS: usize = 0;
@@ -77,7 +76,7 @@ impl Figures {
 }
 
 /// Prints what a book did: each figure, and what stands behind it.
-pub(crate) fn print_figures<R: Print + Abort>(rt: &R, book: &str, figures: &Figures) {
+pub(crate) fn print_figures<R: Print + Stop>(rt: &R, book: &str, figures: &Figures) {
     print!(rt; "{book}: ").or_fail(rt);
     for (count, name) in figures.counts.iter().zip(&NAMES) {
         print!(rt; "{}{}", *count, *name).or_fail(rt);

@@ -1,8 +1,7 @@
 //! The catalogue and the config of a soak.
-use crate::asserted::OrFail;
+use crate::asserted::{OrFail, Stop, hold};
 use crate::inputs::push_recorders;
 use std::alloc::Global;
-use std::process::Abort;
 
 /// How many instruments there are.
 pub(crate) const INSTRUMENTS: usize = 6;
@@ -83,7 +82,7 @@ const BUDGETS: [u64; INSTRUMENTS] = [
 ];
 
 /// The catalogue for so many recorders.
-pub(crate) fn catalogue<R: Abort>(rt: &R, alloc: Global, recorders: u32) -> String {
+pub(crate) fn catalogue<R: Stop>(rt: &R, alloc: Global, recorders: u32) -> String {
     let mut out = String::from_str(alloc, "format = 2\n[[meter]]\nname = 'soak'\n").or_fail(rt);
     for (name, sizes) in NAMES.iter().zip(&SIZES) {
         write!(out, "[[meter.instrument]]\n{}", *name).or_fail(rt);
@@ -94,7 +93,7 @@ pub(crate) fn catalogue<R: Abort>(rt: &R, alloc: Global, recorders: u32) -> Stri
     out
 }
 
-fn push_key<R: Abort>(rt: &R, out: &mut String, name: &str, values: u32) {
+fn push_key<R: Stop>(rt: &R, out: &mut String, name: &str, values: u32) {
     write!(out, "[[meter.instrument.key]]\nname = '{name}'\nvalues = [").or_fail(rt);
     for value in 0..values {
         write!(out, "{value}, ").or_fail(rt);
@@ -103,6 +102,9 @@ fn push_key<R: Abort>(rt: &R, out: &mut String, name: &str, values: u32) {
 }
 
 /// Ends the soak where something of an instrument is off, and says what.
-pub(crate) fn check<R: Abort>(rt: &R, instrument: u32, holds: bool, what: &str) {
-    assert!(rt; holds, "instrument {instrument}: {what}");
+pub(crate) fn check<R: Stop>(rt: &R, instrument: u32, holds: bool, what: &str) {
+    if !holds {
+        let _ = eprintln!(rt; "instrument {instrument}:");
+    }
+    hold(rt, holds, what);
 }

@@ -1,5 +1,5 @@
 //! What the thread of a reader does, and what it saw.
-use crate::asserted::OrFail;
+use crate::asserted::{OrFail, Stop};
 use crate::soak::figures::{CUMULATIVES, DELTAS, Figures, POINTS};
 use crate::soak::inputs::{INSTRUMENTS, check};
 use crate::soak::seen::{Asked, follows, points_of, rises, sum_of};
@@ -7,7 +7,6 @@ use metric_history::Book;
 use metric_sdk::{Batch, Collector, Kind, NoGate, Provider};
 use std::alloc::Global;
 use std::mem;
-use std::process::Abort;
 use std::sync::Wait;
 use std::sync::atomic::{AtomicU64, Ordering};
 use std::time::{Clock, Instant};
@@ -49,7 +48,7 @@ pub(crate) struct Signs {
 
 impl Watcher {
     /// Before its first collection. The first reader is the one of what came since its last batch.
-    pub(crate) fn new<R: Abort>(rt: &R, alloc: Global, collector: Collector) -> Watcher {
+    pub(crate) fn new<R: Stop>(rt: &R, alloc: Global, collector: Collector) -> Watcher {
         let asked = if collector.number() == 0 {
             Asked::Delta
         } else {
@@ -70,7 +69,7 @@ impl Watcher {
     }
 
     /// Collects all instruments again and again, a last time after all recorders have ended.
-    pub(crate) fn watch<R: Wait + Clock + Abort, B: Book>(
+    pub(crate) fn watch<R: Wait + Clock + Stop, B: Book>(
         &mut self,
         rt: &R,
         alloc: Global,
@@ -95,12 +94,7 @@ impl Watcher {
     }
 
     // Compares each batch of a collection with the one before it.
-    fn see<R: Abort, B: Book>(
-        &mut self,
-        rt: &R,
-        provider: &Provider<B, NoGate>,
-        batches: &[Batch],
-    ) {
+    fn see<R: Stop, B: Book>(&mut self, rt: &R, provider: &Provider<B, NoGate>, batches: &[Batch]) {
         let instruments = provider.plan().catalogue().instruments();
         check(
             rt,
@@ -114,7 +108,7 @@ impl Watcher {
         self.figures.add(self.asked.place(), 1);
     }
 
-    fn see_one<R: Abort>(&mut self, rt: &R, number: usize, kind: Kind, batch: &Batch) {
+    fn see_one<R: Stop>(&mut self, rt: &R, number: usize, kind: Kind, batch: &Batch) {
         let before = self.last.get(number);
         let at = batch.instrument;
         let goes_on = at as usize == number && follows(self.asked, before, batch);
@@ -140,7 +134,7 @@ impl Watcher {
     }
 
     /// Keeps batches, one of each instrument.
-    pub(crate) fn keep<R: Abort>(&mut self, rt: &R, batches: Vec<Batch>) {
+    pub(crate) fn keep<R: Stop>(&mut self, rt: &R, batches: Vec<Batch>) {
         for (number, batch) in batches.into_iter().enumerate() {
             let kept = self.kept.get_mut(number).or_fail(rt);
             kept.push(batch).ok().or_fail(rt);

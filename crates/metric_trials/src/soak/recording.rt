@@ -1,10 +1,9 @@
 //! What the thread of a recorder does, and what it was told.
-use crate::asserted::OrFail;
+use crate::asserted::{OrFail, Stop};
 use crate::soak::figures::{BEYOND, CLOSED as REFUSED, Figures, GRANTS};
 use crate::soak::inputs::{ASKED, CLOSED, FIRST, INSTRUMENTS, LEAST, MORE, SECOND, VALUES};
 use metric_history::Book;
 use metric_sdk::{Attr, NoGate, Provider, Recorder, Refusal};
-use std::process::Abort;
 use std::sync::Wait;
 
 /// What a recorder was told of an instrument, counted beside the seat.
@@ -44,7 +43,7 @@ impl Worker {
     }
 
     /// Makes so many recordings, in turn on each instrument. The first recorder closes an instrument midway.
-    pub(crate) fn work<R: Wait + Abort, B: Book>(
+    pub(crate) fn work<R: Wait + Stop, B: Book>(
         &mut self,
         rt: &R,
         provider: &Provider<B, NoGate>,

@@ -1,5 +1,5 @@
 //! A round: all threads at once, and what they come to.
-use crate::asserted::OrFail;
+use crate::asserted::{OrFail, Stop, hold};
 use crate::seats::{Seats, plan_of, started};
 use crate::soak::ends::{Ended, settle};
 use crate::soak::figures::{Figures, ROUNDS};
@@ -9,7 +9,6 @@ use crate::soak::recording::Worker;
 use metric_history::Book;
 use metric_sdk::{Collector, NoGate, Provider, Recorder};
 use std::alloc::Global;
-use std::process::Abort;
 use std::sync::Wait;
 use std::sync::atomic::{AtomicU64, Ordering};
 use std::thread;
@@ -33,7 +32,7 @@ enum Runner {
 }
 
 impl Runner {
-    fn run<R: Wait + Clock + Abort, B: Book>(
+    fn run<R: Wait + Clock + Stop, B: Book>(
         &mut self,
         rt: &R,
         alloc: Global,
@@ -52,7 +51,7 @@ impl Runner {
 
 /// Makes a round of so many recordings of each recorder, whose number of a run no other has, and compares what came of
 /// it. Its figures are added.
-pub(crate) fn round<R: Threads + Wait + Clock + Sync + Abort, B: Book + Send + Sync>(
+pub(crate) fn round<R: Threads + Wait + Clock + Sync + Stop, B: Book + Send + Sync>(
     rt: &R,
     alloc: Global,
     setup: &Setup,
@@ -84,7 +83,7 @@ pub(crate) fn round<R: Threads + Wait + Clock + Sync + Abort, B: Book + Send + S
 
 // The recorders come first: where a thread can not be started, its work is done after that of those before it, and
 // readers go on until all recorders have ended.
-fn runners_of<R: Abort>(
+fn runners_of<R: Stop>(
     rt: &R,
     alloc: Global,
     recorders: Vec<Recorder>,
@@ -103,7 +102,7 @@ fn runners_of<R: Abort>(
 }
 
 // Lets each runner do its work in a thread of its own.
-fn run_all<R: Threads + Wait + Clock + Sync + Abort, B: Book + Send + Sync>(
+fn run_all<R: Threads + Wait + Clock + Sync + Stop, B: Book + Send + Sync>(
     rt: &R,
     alloc: Global,
     provider: &Provider<B, NoGate>,
@@ -111,7 +110,7 @@ fn run_all<R: Threads + Wait + Clock + Sync + Abort, B: Book + Send + Sync>(
     signs: &Signs,
 ) {
     let count = runners.len();
-    assert!(rt; count > 0);
+    hold(rt, count > 0, "a seat is there");
     thread::for_each_mut(
         rt,
         runners.as_mut_slice(),
@@ -120,7 +119,7 @@ fn run_all<R: Threads + Wait + Clock + Sync + Abort, B: Book + Send + Sync>(
     );
 }
 
-fn ended_of<R: Abort>(rt: &R, alloc: Global, runners: Vec<Runner>) -> Ended {
+fn ended_of<R: Stop>(rt: &R, alloc: Global, runners: Vec<Runner>) -> Ended {
     let mut ended = Ended {
         workers: Vec::new(alloc),
         watchers: Vec::new(alloc),
