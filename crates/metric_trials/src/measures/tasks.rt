@@ -18,15 +18,44 @@ const REPETITIONS: u32 = 9;
 // How often a thread looks whether the others have started.
 const TURNS: u32 = 1_000_000;
 
+/// A seat, and what it records.
+#[derive(Drop)]
+pub(crate) struct Caller<'a> {
+    pub provider: &'a MeterProvider,
+    pub recorder: Recorder,
+    pub calls: Calls<'a>,
+}
+
+impl Caller<'_> {
+    // About so many recordings; of those with attributes fewer where it is over before.
+    fn record<R: Wait + Stop>(&mut self, rt: &R, events: u32, race: &Race) -> u64 {
+        let (provider, recorder) = (self.provider, &mut self.recorder);
+        if self.calls.how == How::Attributes {
+            return self
+                .calls
+                .record_until(rt, provider, recorder, events, &race.is_over);
+        }
+        let rounds = self.calls.rounds(events);
+        self.calls.repeat(rt, provider, recorder, rounds)
+    }
+}
+
+/// A seat that collects all instruments.
+#[derive(Drop)]
+pub(crate) struct Reader<'a> {
+    pub provider: &'a MeterProvider,
+    pub collector: Collector,
+}
+
 /// What a thread does.
 #[derive(Drop)]
 pub(crate) enum Task<'a> {
     /// So many recordings.
-    Record(&'a MeterProvider, Recorder, Calls<'a>),
+    Record(Caller<'a>),
     /// Recordings until it is over, whose time is not measured.
-    RecordUntil(&'a MeterProvider, Recorder, Calls<'a>),
+    RecordUntil(Caller<'a>),
     /// So many collections, after which it is over.
-    Collect(&'a MeterProvider, Collector),
+    Collect(Reader<'a>),
     /// So many additions under a lock.
     Add(&'a Mutex<u64>),
 }
@@ -82,7 +111,7 @@ impl<'a> Runner<'a> {
         let told = watch.told(rt, number);
         self.number = told.number;
         self.took = match self.task {
-            Task::RecordUntil(..) => 0,
+            Task::RecordUntil(_) => 0,
             _ => told.nanoseconds,
         };
     }
@@ -92,31 +121,21 @@ impl Task<'_> {
     // Does it. A number that depends on all of it.
     fn work<R: Wait + Stop>(&mut self, rt: &R, race: &Race) -> u64 {
         match self {
-            Task::Record(provider, recorder, calls) if calls.how == How::Attributes => {
-                calls.record_until(rt, *provider, recorder, race.events, &race.is_over)
-            }
-            Task::Record(provider, recorder, calls) => {
-                calls.repeat(rt, *provider, recorder, calls.rounds(race.events))
-            }
-            Task::RecordUntil(provider, recorder, calls) => {
-                calls.record_until(rt, *provider, recorder, u32::MAX, &race.is_over)
-            }
-            Task::Collect(provider, collector) => collect(rt, *provider, collector, race),
+            Task::Record(caller) => caller.record(rt, race.events, race),
+            Task::RecordUntil(caller) => caller.record(rt, u32::MAX, race),
+            Task::Collect(reader) => collect(rt, reader, race),
             Task::Add(sum) => add_all(rt, *sum, race.events),
         }
     }
 }
 
 // Collects, and then tells the others that it is over. A number that depends on all points.
-fn collect<R: Wait + Stop>(
-    rt: &R,
-    provider: &MeterProvider,
-    collector: &mut Collector,
-    race: &Race,
-) -> u64 {
+fn collect<R: Wait + Stop>(rt: &R, reader: &mut Reader<'_>, race: &Race) -> u64 {
     let mut number: u64 = 0;
     for _ in 0..race.events {
-        let batches = collector.collect_all(rt, race.alloc, provider, 0);
+        let batches = reader
+            .collector
+            .collect_all(rt, race.alloc, reader.provider, 0);
         number = number.wrapping_add(number_of_all(&batches.ok().or_fail(rt)));
     }
     race.is_over.store(true, Ordering::SeqCst);

@@ -5,7 +5,7 @@ use crate::measures::calls::{Calls, How};
 use crate::measures::table::{
     Floor, Row, Unit, each, print_row, print_spread, print_title, scaled,
 };
-use crate::measures::tasks::{Runner, Task, times_together};
+use crate::measures::tasks::{Caller, Reader, Runner, Task, times_together};
 use crate::measures::words::{THREADS, Words};
 use crate::measures::works::{Act, Case, least};
 use crate::seats::{Seats, seats_of};
@@ -254,15 +254,24 @@ fn seats_measured<R: Threads + Wait + Clock + Sync + Stop>(
     for _ in 0..threads {
         let recorder = seats.recorders.pop().or_fail(rt);
         let calls = calls_of(sharing, recorder.number(), &recordings);
+        let caller = Caller {
+            provider,
+            recorder,
+            calls,
+        };
         let task = if sharing.is_collected {
-            Task::RecordUntil(provider, recorder, calls)
+            Task::RecordUntil(caller)
         } else {
-            Task::Record(provider, recorder, calls)
+            Task::Record(caller)
         };
         runners.push(Runner::new(task)).ok().or_fail(rt);
     }
     if sharing.is_collected {
-        let task = Task::Collect(provider, seats.collectors.pop().or_fail(rt));
+        let collector = seats.collectors.pop().or_fail(rt);
+        let task = Task::Collect(Reader {
+            provider,
+            collector,
+        });
         runners.push(Runner::new(task)).ok().or_fail(rt);
     }
     times_together(rt, alloc, runners, events, tally)

@@ -74,15 +74,11 @@ fn input_but<R: Stop>(
     certificate: &str,
     left: usize,
 ) -> String {
-    let parts = [
-        "%% catalogue\n",
-        data.catalogue,
-        "%% config\n",
-        data.config,
-        certificate,
-        "%% script\nstart 0\n",
-    ];
-    let mut input = parts.concat(alloc).or_fail(rt);
+    let (catalogue, config) = (data.catalogue, data.config);
+    let start = "%% script\nstart 0\n";
+    let mut input = format!(in alloc;
+        "%% catalogue\n{catalogue}%% config\n{config}{certificate}{start}"
+    ).or_fail(rt);
     for (number, line) in data.script.lines().enumerate() {
         if number.wrapping_add(1) != left {
             writeln!(input, "{line}").or_fail(rt);
