@@ -29,14 +29,13 @@ pub(crate) struct Caller<'a> {
 impl Caller<'_> {
     // About so many recordings; of those with attributes fewer where it is over before.
     fn record<R: Wait + Stop>(&mut self, rt: &R, events: u32, race: &Race) -> u64 {
-        let (provider, recorder) = (self.provider, &mut self.recorder);
-        if self.calls.how == How::Attributes {
-            return self
-                .calls
-                .record_until(rt, provider, recorder, events, &race.is_over);
+        let calls = self.calls;
+        if calls.how == How::Attributes {
+            let is_over = &race.is_over;
+            return calls.record_until(rt, self.provider, &mut self.recorder, events, is_over);
         }
-        let rounds = self.calls.rounds(events);
-        self.calls.repeat(rt, provider, recorder, rounds)
+        let rounds = calls.rounds(events);
+        calls.repeat(rt, self.provider, &mut self.recorder, rounds)
     }
 }
 
