@@ -3,6 +3,7 @@
 //! reader that does no harm.
 //!
 //!     cargo run --offline --release --example otlp_push [HOST:PORT]     without one, a collector of its own refuses the first post
+use std::collections::VecDeque;
 use std::error::Error;
 use std::io::{self, ErrorKind, Read, Write};
 use std::net::{TcpListener, TcpStream};
@@ -15,8 +16,11 @@ const WAIT: Duration = Duration::from_secs(5);
 /// The longest pause between two posts that were not taken.
 const LONGEST: Duration = Duration::from_secs(60);
 
-/// The greatest post. Above this nothing more is collected: a delta reader's next window then covers what was recorded meanwhile.
-const MOST: usize = 4 << 20;
+/// The greatest post, in bytes.
+const MOST_BYTES: usize = 4 << 20;
+
+/// Where so many messages wait, nothing more is collected: a delta reader's next window then covers what was recorded meanwhile.
+const MOST_WAITING: usize = 1000;
 
 const CATALOGUE: &str = "format = 1
 [[meter]]
@@ -37,10 +41,10 @@ name = 'collector'
 temporality = { counter = 'delta' }
 ";
 
-/// Requests that no collector has answered yet. One after the other they are one request.
+/// Messages that no collector has answered yet. One after the other they are one message.
 struct Outbox {
     host: String,
-    waiting: Vec<u8>,
+    waiting: VecDeque<Vec<u8>>,
     pause: Duration,
     paused_until: Instant,
 }
@@ -57,28 +61,44 @@ enum Answer {
 
 impl Outbox {
     fn has_room(&self) -> bool {
-        self.waiting.len() < MOST
+        self.waiting.len() < MOST_WAITING
     }
 
     /// Keeps what a reader collected, unless it has no points.
     fn put(&mut self, reader: &mut Reader, resource: &Resource) -> Result<(), ResourceFault> {
-        self.waiting.extend(reader.otlp(resource)?);
+        let message = reader.otlp(resource)?;
+        if !message.is_empty() {
+            self.waiting.push_back(message);
+        }
         Ok(())
     }
 
-    /// Sends all that waits, unless a pause lasts. It goes on waiting only where it is to be sent again.
+    /// How many messages a post has: as many as fit, but one at least.
+    fn count_of_post(&self) -> usize {
+        let mut size = 0;
+        let fitting = self.waiting.iter().take_while(|message| {
+            size += message.len();
+            size <= MOST_BYTES
+        });
+        fitting.count().max(1)
+    }
+
+    /// Makes a post of what waits, unless a pause lasts. It goes on waiting only where it is to be sent again.
     fn send(&mut self) -> Option<Answer> {
         if self.waiting.is_empty() || Instant::now() < self.paused_until {
             return None;
         }
-        let answer = post(&self.host, &self.waiting).unwrap_or(Answer::Again(Duration::ZERO));
+        let count = self.count_of_post();
+        let messages = self.waiting.range(..count);
+        let message: Vec<u8> = messages.flatten().copied().collect();
+        let answer = post(&self.host, &message).unwrap_or(Answer::Again(Duration::ZERO));
         self.pause = match answer {
             Answer::Again(_) => (2 * self.pause).clamp(Duration::from_secs(1), LONGEST),
             _ => Duration::ZERO,
         };
         match answer {
             Answer::Again(after) => self.paused_until = Instant::now() + self.pause.max(after),
-            _ => self.waiting.clear(),
+            _ => drop(self.waiting.drain(..count)),
         }
         Some(answer)
     }
@@ -188,7 +208,7 @@ fn main() -> Result<(), Box<dyn Error>> {
     };
     let mut outbox = Outbox {
         host,
-        waiting: Vec::new(),
+        waiting: VecDeque::new(),
         pause: Duration::ZERO,
         paused_until: Instant::now(),
     };
@@ -214,7 +234,7 @@ fn main() -> Result<(), Box<dyn Error>> {
         match outbox.send() {
             None => println!("nothing to send"),
             Some(Answer::Taken(rejected)) => println!("sent, {rejected} points rejected"),
-            Some(Answer::Again(_)) => println!("not taken: {} bytes wait", outbox.waiting.len()),
+            Some(Answer::Again(_)) => println!("not taken, waiting: {}", outbox.waiting.len()),
             Some(Answer::Refused(status)) => println!("dropped: status {status}"),
         }
     }
