@@ -1,4 +1,5 @@
 //! Calls on exporters, one by one: what each answers, and what the exporter then tells.
+use crate::asserted::{OrFail, assert_equal};
 use crate::failing::{Failing, failing_at};
 use crate::page::Page;
 use crate::services::{DELTA, GERMAN, ORDERS, REFUNDS, Service};
