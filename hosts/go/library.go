@@ -9,7 +9,7 @@ package wormweekly
 #include <string.h>
 #include "wormweekly.h"
 
-enum { FEW_ATTRIBUTES = 8, FEW_BYTES = 512 };
+enum { FEW_ATTRIBUTES = 8, FEW_BYTES = 512, MOST_ATTRIBUTES = 65 };
 
 // Room for the attributes of a call, of each recorder.
 typedef struct {
@@ -207,7 +207,12 @@ type given struct {
 	isOwned    bool
 }
 
+// The keys are compared with one another, so no more than 65 are given. Of so many a key is unknown or stands twice, and what
+// follows could not mend that.
 func (own *handles) give(recorder int, attributes []Attr) given {
+	if len(attributes) > C.MOST_ATTRIBUTES {
+		attributes = attributes[:C.MOST_ATTRIBUTES]
+	}
 	length := lengthOf(attributes)
 	if length > C.FEW_BYTES || len(attributes) > C.FEW_ATTRIBUTES {
 		return giveMany(length, attributes)

@@ -106,13 +106,10 @@ func errorOn(instrument *Instrument, answer uint32) error {
 	return fmt.Errorf("%w (instrument %q)", errorOf(answer), instrument.name)
 }
 
-// A recording with more attributes is refused without words: each key is compared with all after it.
-const mostExplained = 128
-
 // The same with what attributes and a value are refused for, where that is it.
 func errorSaid(instrument *Instrument, answer uint32, recorder int, attributes []Attr, value int64) error {
 	refusal, is := byAnswer[answer]
-	if is && (refusal.family == ErrAttributes || refusal == ErrRange) && len(attributes) <= mostExplained {
+	if is && (refusal.family == ErrAttributes || refusal == ErrRange) {
 		said := explain(instrument.run.handles, instrument.number, recorder, attributes, value)
 		if said != "" {
 			return fmt.Errorf("%w: %s", refusal, said)

@@ -3,6 +3,7 @@ package wormweekly
 import (
 	"errors"
 	"math"
+	"strconv"
 	"strings"
 	"testing"
 	"time"
@@ -49,6 +50,10 @@ func TestRecordingsAreRefusedByName(t *testing.T) {
 
 func TestRefusalsTellWhatTheyAreAbout(t *testing.T) {
 	_, first, _, requests := opened(t)
+	many := make([]Attr, 100_000)
+	for at := range many {
+		many[at] = String(strconv.Itoa(at), "")
+	}
 	cases := []struct {
 		attributes []Attr
 		value      int64
@@ -59,6 +64,7 @@ func TestRefusalsTellWhatTheyAreAbout(t *testing.T) {
 		{[]Attr{String("route", "\x1b[2J"), Int("status", 200)}, 1, `requests: key "route" has no value "\u{1b}[2J"`},
 		{home[:1], 1, `requests: key "status" is missing`},
 		{home, 0, "requests: value 0 is not in the range from 1 to 100"},
+		{many, 1, `requests: key "0" is not declared`},
 	}
 	for _, one := range cases {
 		err := first.Record(requests, one.value, one.attributes...)

@@ -161,10 +161,13 @@ static int add_attribute(Run *run, Given *given, PyObject *key, PyObject *value)
     return is_inside;
 }
 
+/* The keys are compared with one another, so no more than 65 are read. Of so many a key is unknown, and a resource has fewer:
+   what follows could not mend that. */
 static int read_dict(Run *run, PyObject *dict, Given *given) {
     PyObject *key, *value;
     Py_ssize_t at = 0;
     size_t count = (size_t)PyDict_Size(dict);
+    count = count < MOST_ATTRIBUTES ? count : MOST_ATTRIBUTES;
     if (count > FEW_ATTRIBUTES) {
         wormweekly_attribute *all = malloc(count * sizeof *all);
         if (all == NULL) {
@@ -173,7 +176,7 @@ static int read_dict(Run *run, PyObject *dict, Given *given) {
         }
         given->all = all;
     }
-    while (PyDict_Next(dict, &at, &key, &value)) {
+    while (given->own.count < count && PyDict_Next(dict, &at, &key, &value)) {
         if (!add_attribute(run, given, key, value)) {
             return 0;
         }

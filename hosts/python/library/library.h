@@ -63,7 +63,7 @@ int read_text(Run *run, PyObject *given, Text *text);
 Seat *read_seat(Run *run, PyObject *given, PyTypeObject *type, const char *wanted);
 Bound *read_bound(Run *run, PyObject *given);
 
-enum { FEW_ATTRIBUTES = 8, FEW_BYTES = 512 };
+enum { FEW_ATTRIBUTES = 8, FEW_BYTES = 512, MOST_ATTRIBUTES = 65 };
 
 /* Attributes of a mapping, in room of the caller's frame as long as they are few. The caller frees them in any case. */
 typedef struct {

@@ -22,9 +22,6 @@ PyObject *refuse_told(Run *run, uint32_t answer, const uint8_t *text, size_t len
     return refuse_with(run, answer, PyUnicode_DecodeUTF8((const char *)text, (Py_ssize_t)length, "replace"));
 }
 
-/* A recording with more attributes is refused without words: each key is compared with all after it. */
-enum { MOST_EXPLAINED = 128 };
-
 /* Attributes and a value, as a recorder on an instrument has them. */
 typedef struct {
     wormweekly_recorder *recorder;
@@ -59,7 +56,7 @@ static int is_of_said(uint32_t answer) {
 PyObject *refuse_said(Run *run, uint32_t answer, size_t recorder, size_t instrument, const Attributes *given,
                       int64_t value) {
     PyObject *told = NULL;
-    if (is_of_said(answer) && given->count <= MOST_EXPLAINED) {
+    if (is_of_said(answer)) {
         Said said = { handles_lend_recorder(&run->handles, recorder), instrument, given, value };
         told = ask_text(run, explain, &said, 0, 0);
         handles_take_recorder(&run->handles, recorder);

@@ -59,6 +59,7 @@ TOLD: list[tuple[Any, Any, str]] = [
     ({"route": "\x1b[2J", "status": 200}, 1, 'requests: key "route" has no value "\\u{1b}[2J"'),
     ({"route": "/"}, 1, 'requests: key "status" is missing'),
     (HOME, 0, "requests: value 0 is not in the range from 1 to 100"),
+    ({f"key {number}": "" for number in range(100_000)}, 1, 'requests: key "key 0" is not declared'),
 ]
 
 FAULTS: list[tuple[Any, Any, type[Refusal]]] = [

@@ -8,9 +8,6 @@ use crate::value::{FewAttributes, Room, Value};
 // The number of the refusal of a recorder or an instrument of another run.
 const STRANGER: u32 = 12;
 
-// A recording with more attributes is refused without words: each key is compared with all after it.
-const MOST_EXPLAINED: usize = 128;
-
 /// The seat of one recorder, with which a thread records. It keeps what it was told of its recordings, and goes from thread
 /// to thread, but is never shared or copied.
 // Each recording writes in it, so no two of a list share lines of cache, nor a pair of lines that are fetched together.
@@ -180,9 +177,6 @@ impl Recorder {
         attributes: &[(&str, Value<'_>)],
         value: i64,
     ) -> Option<String> {
-        if attributes.len() > MOST_EXPLAINED {
-            return None;
-        }
         let Recorder { handle, room, .. } = self;
         let (texts, attributes) = room.filled(attributes);
         // SAFETY: as in `find`.

@@ -40,6 +40,10 @@ impl From<bool> for Value<'_> {
 const FEW: usize = 8;
 const SHORT: usize = 256;
 
+// The keys of attributes are compared with one another, so no more than these are. Of so many a key is unknown or stands twice, and
+// what follows could not mend that.
+const MOST: usize = 65;
+
 /// Room for the few short attributes that most recordings have.
 pub(crate) struct FewAttributes {
     texts: [u8; SHORT],
@@ -133,9 +137,9 @@ impl Room {
         }
     }
 
-    /// The attributes as a call takes them.
+    /// The attributes as a recording takes them. Of more than 65 the first 65, which are refused.
     pub(crate) fn filled(&mut self, attributes: &[(&str, Value<'_>)]) -> (&[u8], &[Attribute]) {
-        self.fill(attributes);
+        self.fill(&attributes[..attributes.len().min(MOST)]);
         (&self.texts, &self.attributes)
     }
 
