@@ -40,4 +40,3 @@ fn a_written_certificate_that_is_cut_is_refused(rt: HostRuntime) {
     let told = told_of_part(&rt, rt.alloc(), whole);
     assert_equal(&rt, told.as_str(), "accepted\n");
 }
-
