@@ -31,7 +31,7 @@ fn texts_of<R: Stop>(rt: &R, alloc: Global, instruments: u32) -> (String, String
     }
     let shape = counters(instruments, KEYS, SOME_VALUES, RECORDERS);
     let catalogue = catalogue(rt, alloc, &shape);
-    let pairs = u64::from(instruments) * u64::from(views);
+    let pairs = u64::from(instruments).wrapping_mul(u64::from(views));
     (catalogue, config(rt, alloc, 1, views), pairs)
 }
 

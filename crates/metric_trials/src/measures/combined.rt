@@ -10,6 +10,9 @@ use metric_sdk::{Attr, Catalogue, SetKey};
 use std::alloc::Global;
 use std::time::Clock;
 
+// How many combinations an instrument has at most.
+const MOST_ROWS: usize = 4096;
+
 /// Makes set keys of lists of so many attributes, one after the other. A number that depends on all.
 pub(crate) fn encode_lists<R: Clock + Stop>(
     rt: &R,
@@ -58,7 +61,12 @@ fn combinations_of<R: Stop>(rt: &R, alloc: Global, rows: &[SetKey]) -> Combinati
     for row in rows {
         read.push(*row).or_fail(rt);
     }
-    hold(rt, read.len() == rows.len(), "a combination stands twice");
+    let is_list = read.len() == rows.len() && read.len() <= MOST_ROWS;
+    hold(
+        rt,
+        is_list,
+        "a combination stands twice, or they are too many",
+    );
     read.finish(alloc).or_fail(rt)
 }
 

@@ -102,24 +102,15 @@ fn compare<R: Stop>(
     tally: &Tally,
     watchers: &[Watcher],
 ) {
+    let at = u32::try_from(number).or_fail(rt);
     let is_told = total.count == tally.count && total.sum == i128::from(tally.sum);
-    check(
-        rt,
-        number as u32,
-        is_told,
-        "the total is not what recorders were told",
-    );
+    check(rt, at, is_told, "the total is not what recorders were told");
     let kind = plan.catalogue().instruments().get(number).or_fail(rt).kind;
     for watcher in watchers {
         let last = watcher.last.get(number).or_fail(rt);
         let sum = i128::from(*watcher.sums.get(number).or_fail(rt));
         let is_seen = last.mark == total.count && (kind == Kind::Gauge || total.sum == sum);
-        check(
-            rt,
-            number as u32,
-            is_seen,
-            "the batches do not come to the total",
-        );
+        check(rt, at, is_seen, "the batches do not come to the total");
     }
 }
 
