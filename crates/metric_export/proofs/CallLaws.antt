@@ -19,6 +19,7 @@ shut_answer s failed (Err fault.ShutDown) e a = refl
 shut_answer s failed (Err fault.Memory) e a = absurd cc
 shut_answer s failed (Err fault.Kept) e a = absurd cc
 shut_answer s failed (Err fault.OtherPlan) e a = absurd cc
+shut_answer s failed (Err fault.OtherReader) e a = absurd cc
 
 shut_after : (is_shutdown : Bool) (s s' : ExporterState) (r : Result (Unit {0}) ExportFault) → s ≡ ShutDown → r ≡ Err fault.ShutDown
     → Leaves is_shutdown s s' r → s' ≡ ShutDown
@@ -29,6 +30,7 @@ shut_after false s s' (Err fault.ShutDown) e f l = l ∙ e
 shut_after false s s' (Err fault.Memory) e f l = l ∙ e
 shut_after false s s' (Err fault.Kept) e f l = l ∙ e
 shut_after false s s' (Err fault.OtherPlan) e f l = l ∙ e
+shut_after false s s' (Err fault.OtherReader) e f l = l ∙ e
 
 shut_from : (calls : List Call) → IsRun ShutDown calls → AllByRecursion (λ call. call.answer ≡ Err fault.ShutDown) calls
 shut_from [] run = tt
@@ -56,6 +58,7 @@ write_answer s failed (Err fault.ShutDown) e a = absurd cc
 write_answer s failed (Err fault.Memory) e a = absurd cc
 write_answer s failed (Err fault.Kept) e a = absurd cc
 write_answer s failed (Err fault.OtherPlan) e a = absurd cc
+write_answer s failed (Err fault.OtherReader) e a = absurd cc
 
 -- an exporter is broken after a call only where it was before, or the device failed in the call
 broken_after : (earlier failed : Type 0) (is_shutdown : Bool) (s s' : ExporterState) (r : Result (Unit {0}) ExportFault) → (s ≡ Broken → earlier)
@@ -68,6 +71,7 @@ broken_after earlier failed false s s' (Err fault.ShutDown) known a l e = absurd
 broken_after earlier failed false s s' (Err fault.Memory) known a l e = absurd cc
 broken_after earlier failed false s s' (Err fault.Kept) known a l e = absurd cc
 broken_after earlier failed false s s' (Err fault.OtherPlan) known a l e = absurd cc
+broken_after earlier failed false s s' (Err fault.OtherReader) known a l e = absurd cc
 
 regrouped : (a b c : Type 0) → (a ⊎ b) ⊎ c → a ⊎ (b ⊎ c)
 regrouped a b c (inl (inl x)) = inl x

@@ -4,7 +4,7 @@ use Rattle.std.proofs.lemmas.List.{drop-drop, take_more}
 use Rattle.std.specs.Prelude.{flat_map}
 use Rattle.metric_history.specs.declared.batch.Batch.{Batch}
 use Rattle.metric_export.specs.Handings.{Exporting, TakesEach, TakesOne}
-use Rattle.metric_export.specs.Queues.{HandedIn, HandsInEach, IsAccounted, entered_by, gone_by, kept_after, queue_of}
+use Rattle.metric_export.specs.Queues.{IsAccounted, entered_by, gone_by, kept_after, queue_of}
 
 -- ---- batches that were taken
 

@@ -20,6 +20,10 @@ has_points batch = list_any is_pointed batch.streams
 abbrev pub Exporting : Type 0 → Type 1
 Exporting E = E → E → Batch → Result (Unit {0}) ExportFault → Type 0
 
+-- what is said of a call of it for no batch, as a flush or its shutdown
+abbrev pub Answering : Type 0 → Type 1
+Answering E = E → E → Result (Unit {0}) ExportFault → Type 0
+
 -- The exporter was called once, for a batch, which went out or is kept.
 pub record TakesOne {E : Type 0} (exports : Exporting E) (old new : E) (batch : Batch) : Type 0 where
   pub answer : Result (Unit {0}) ExportFault

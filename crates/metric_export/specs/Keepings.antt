@@ -1,8 +1,8 @@
 -- An exporter that keeps its batches in memory.
-use Rattle.std.specs.Prelude.{◌≡◌, List, [], ◌∷◌, ◌++◌, Result, Ok, Err}
+use Rattle.std.specs.Prelude.{◌≡◌, true, List, [], ◌∷◌, ◌++◌, Result, Ok, Err}
 use Rattle.metric_history.specs.declared.batch.Batch.{Batch}
 use Rattle.metric_plan.specs.Plans.{PlanValue}
-use Rattle.metric_export.specs.Exports.{KeepsNone, is_own}
+use Rattle.metric_export.specs.Exports.{KeepsNone, refuses}
 use Rattle.metric_export.specs.States.{Admits}
 use Rattle.metric_export.specs.declared.fault.ExportFault.{ExportFault}
 use Rattle.metric_export.specs.declared.state.ExporterState.{ExporterState}
@@ -19,7 +19,7 @@ abbrev pub KeepsBatch : KeepingValue → KeepingValue → PlanValue → Batch
     → Result (Unit {0}) ExportFault → Type 0
 KeepsBatch old new plan batch (Ok done) = new ≡ record old { batches = old.batches ++ batch ∷ [] }
 KeepsBatch old new plan batch (Err fault) =
-    (new ≡ old) × KeepsNone (is_own plan batch) (Err fault)
+    (new ≡ old) × KeepsNone (refuses (λ _ _. true) plan batch) (Err fault)
 
 -- a flush does nothing, and is answered by the state alone
 abbrev pub OnlyFlushed : KeepingValue → KeepingValue → Result (Unit {0}) ExportFault → Type 0

@@ -1,13 +1,15 @@
 -- An exporter that keeps the batches which another one refused.
-use Rattle.std.specs.Prelude.{◌≡◌, ◌≢◌, ◌+◌, ◌-◌, ◌*◌, ◌||◌, ◌&&◌, ◌==◌, ℕ, min, Bool, true, false, List, [], ◌∷◌, ◌++◌, length}
+use Rattle.std.specs.Prelude.{◌≡◌, ◌≢◌, ◌+◌, ◌-◌, ◌*◌, ◌||◌, ◌==◌, ℕ, min, Bool, true, false, List, [], ◌∷◌, ◌++◌, length}
 use Rattle.std.specs.Prelude.{if◌then◌else◌, take, drop, flat_map, is_none, Option, Some, None, Result, Ok, Err}
-use Rattle.std.specs.List.{list_all}
+use Rattle.std.specs.Option.{option_or}
 use Rattle.metric_io.specs.Counts.{higher_count, next_count}
 use Rattle.metric_history.specs.declared.batch.Batch.{Batch}
 use Rattle.metric_plan.specs.Plans.{PlanValue}
-use Rattle.metric_export.specs.Exports.{is_own, is_taken}
-use Rattle.metric_export.specs.Handings.{Exporting, HandsOnInOrder}
+use Rattle.metric_export.specs.ExporterCalls.{IsExport, IsFlush, IsRetry, IsShutdown}
+use Rattle.metric_export.specs.Exports.{is_taken, refuses}
+use Rattle.metric_export.specs.Handings.{Answering, Exporting, HandsOnInOrder}
 use Rattle.metric_export.specs.States.{Admits}
+use Rattle.metric_export.specs.declared.exporter.MetricExporter as exporter
 use Rattle.metric_export.specs.declared.fault.ExportFault.{ExportFault}
 use Rattle.metric_export.specs.declared.fault.ExportFault.TheVariants as fault
 use Rattle.metric_export.specs.declared.state.ExporterState.{ExporterState}
@@ -122,6 +124,7 @@ failures_after failures (Err fault.ShutDown) = failures
 failures_after failures (Err fault.Memory) = failures
 failures_after failures (Err fault.Kept) = failures
 failures_after failures (Err fault.OtherPlan) = failures
+failures_after failures (Err fault.OtherReader) = failures
 
 -- what a queue answers: what the exporter below answered where the batch went on to that, else
 -- whether it is kept
@@ -158,26 +161,29 @@ pub record HandsInOpen {E : Type 0}
   pub most : new.most ≡ old.most
   pub state : new.state ≡ old.state
 
--- whether a batch is of a plan, and each that is kept
-abbrev pub are_own : PlanValue → List Batch → Batch → Bool
-are_own plan kept batch = is_own plan batch && list_all (is_own plan) kept
+-- by what the first of some batches is refused that is, by an exporter that takes those of these readers
+abbrev pub refuses_any : (ℕ → ℕ → Bool) → PlanValue → List Batch → Option ExportFault
+refuses_any takes plan [] = None
+refuses_any takes plan (batch ∷ batches) =
+    option_or (refuses takes plan batch) (refuses_any takes plan batches)
 
 -- # what a queue does (profile) [HandsIn, TriesAll, is_due, longer, RetriesKept, PassesFlush,
 -- PassesShutdown]
 -- Batches are exported in order, each once, up to the first that is refused, unless it lets an
 -- export pass; what is left is kept, but for the oldest that are more than may be kept, and for a
 -- batch for which memory runs out. A new try exports all that is kept at once. Neither does anything
--- where one of these is of another plan.
-pub record HandsIn {E : Type 0}
-    (exports : PlanValue → Exporting E)
+-- where one of these is of another plan, or of a reader whose batches the exporter below does not take.
+pub record HandsIn {E : Type 0} (by : exporter.Ghosts E)
     (old new : QueuedValue E)
     (plan : PlanValue)
     (batch : Batch)
     (answer : Result (Unit {0}) ExportFault) : Type 0 where
-  pub when_open : old.state ≡ Open → are_own plan old.kept batch ≡ true
-      → HandsInOpen (exports plan) old new batch answer
-  pub when_other : old.state ≡ Open → are_own plan old.kept batch ≡ false
-      → (answer ≡ Err fault.OtherPlan) × (new ≡ old)
+  pub when_open : old.state ≡ Open
+      → refuses_any (by.takes old.inner) plan (batch ∷ old.kept) ≡ None
+      → HandsInOpen (IsExport by plan) old new batch answer
+  pub when_other : old.state ≡ Open → (why : ExportFault)
+      → refuses_any (by.takes old.inner) plan (batch ∷ old.kept) ≡ Some why
+      → (answer ≡ Err why) × (new ≡ old)
   pub when_shut : old.state ≢ Open → new ≡ old
 
 -- ---- one new try of all that is kept
@@ -197,12 +203,13 @@ passed_on (Err fault.ShutDown) = Err fault.Write
 passed_on (Err fault.Memory) = Err fault.Memory
 passed_on (Err fault.Kept) = Err fault.Kept
 passed_on (Err fault.OtherPlan) = Err fault.OtherPlan
+passed_on (Err fault.OtherReader) = Err fault.OtherReader
 
 -- The kept batches were handed on at once, in order, up to the first that was refused, and then the
 -- exporter below tried again what it keeps. What is left is kept.
 pub record RetriesOpen {E : Type 0}
     (exports : Exporting E)
-    (retries : E → E → Result (Unit {0}) ExportFault → Type 0)
+    (retries : Answering E)
     (old new : QueuedValue E)
     (answer : Result (Unit {0}) ExportFault) : Type 0 where
   pub mid : E
@@ -223,24 +230,23 @@ pub record RetriesOpen {E : Type 0}
   pub state : new.state ≡ old.state
 
 -- One call of `retry`: where the queue was shut down, nothing is done; nor is anything where a batch
--- that is kept is of another plan.
-pub record RetriesKept {E : Type 0}
-    (exports : PlanValue → Exporting E)
-    (retries : PlanValue → E → E → Result (Unit {0}) ExportFault → Type 0)
+-- that is kept is of another plan or reader.
+pub record RetriesKept {E : Type 0} (by : exporter.Ghosts E)
     (old new : QueuedValue E)
     (plan : PlanValue)
     (answer : Result (Unit {0}) ExportFault) : Type 0 where
-  pub when_open : old.state ≡ Open → list_all (is_own plan) old.kept ≡ true
-      → RetriesOpen (exports plan) (retries plan) old new answer
-  pub when_other : old.state ≡ Open → list_all (is_own plan) old.kept ≡ false
-      → (answer ≡ Err fault.OtherPlan) × (new ≡ old)
+  pub when_open : old.state ≡ Open → refuses_any (by.takes old.inner) plan old.kept ≡ None
+      → RetriesOpen (IsExport by plan) (IsRetry by plan) old new answer
+  pub when_other : old.state ≡ Open → (why : ExportFault)
+      → refuses_any (by.takes old.inner) plan old.kept ≡ Some why
+      → (answer ≡ Err why) × (new ≡ old)
   pub when_shut : old.state ≢ Open → (new ≡ old) × Admits old.state answer
 
 -- ---- calls that are passed on
 
 -- The exporter below was called once, and what is kept stays.
 pub record PassesOnce {E : Type 0}
-    (gives : E → E → Result (Unit {0}) ExportFault → Type 0)
+    (gives : Answering E)
     (old new : QueuedValue E)
     (state : ExporterState)
     (answer : Result (Unit {0}) ExportFault) : Type 0 where
@@ -254,19 +260,17 @@ pub record PassesOnce {E : Type 0}
   }
 
 -- A flush is passed on to the exporter below, once, unless the queue was shut down.
-pub record PassesFlush {E : Type 0}
-    (gives : E → E → Result (Unit {0}) ExportFault → Type 0)
+pub record PassesFlush {E : Type 0} (by : exporter.Ghosts E)
     (old new : QueuedValue E)
     (answer : Result (Unit {0}) ExportFault) : Type 0 where
-  pub passed : old.state ≡ Open → PassesOnce gives old new old.state answer
+  pub passed : old.state ≡ Open → PassesOnce (IsFlush by) old new old.state answer
   pub unpassed : old.state ≢ Open → new ≡ old
 
 -- So is a shutdown, after which the queue is shut down too.
-pub record PassesShutdown {E : Type 0}
-    (gives : E → E → Result (Unit {0}) ExportFault → Type 0)
+pub record PassesShutdown {E : Type 0} (by : exporter.Ghosts E)
     (old new : QueuedValue E)
     (answer : Result (Unit {0}) ExportFault) : Type 0 where
-  pub passed : old.state ≡ Open → PassesOnce gives old new ShutDown answer
+  pub passed : old.state ≡ Open → PassesOnce (IsShutdown by) old new ShutDown answer
   pub unpassed : old.state ≢ Open → new ≡ record old { state = ShutDown }
 
 -- ---- many calls

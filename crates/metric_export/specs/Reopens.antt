@@ -1,11 +1,11 @@
 -- An exporter of texts that opens a new sink after a failure.
-use Rattle.std.specs.Prelude.{◌≡◌, ◌≢◌, ℕ, true, false, List, Option, Some, None, Result, Ok, Err}
+use Rattle.std.specs.Prelude.{◌≡◌, ◌≢◌, ℕ, Bool, List, Option, Some, None, Result, Ok, Err}
 use Rattle.metric_io.specs.Counts.{HasFailed}
 use Rattle.metric_io.specs.declared.devices.Broken.{Broken}
 use Rattle.metric_history.specs.declared.batch.Batch.{Batch}
 use Rattle.metric_plan.specs.Plans.{PlanValue}
 use Rattle.metric_export.specs.ExporterCalls.{Flushing, FlushesOnce}
-use Rattle.metric_export.specs.Exports.{Exports, is_own}
+use Rattle.metric_export.specs.Exports.{Exports, refuses}
 use Rattle.metric_export.specs.Queues.{failures_after}
 use Rattle.metric_export.specs.declared.fault.ExportFault.{ExportFault}
 use Rattle.metric_export.specs.declared.fault.ExportFault.TheVariants as fault
@@ -38,6 +38,7 @@ left_open sink (Err fault.ShutDown) = Some sink
 left_open sink (Err fault.Memory) = Some sink
 left_open sink (Err fault.Kept) = Some sink
 left_open sink (Err fault.OtherPlan) = Some sink
+left_open sink (Err fault.OtherReader) = Some sink
 
 -- what a write is answered by: Write exactly where the sink failed, and when out of memory the sink
 -- was not asked
@@ -48,6 +49,7 @@ AnswersWrite failures old new (Err fault.ShutDown) = ⊥
 AnswersWrite failures old new (Err fault.Memory) = new ≡ old
 AnswersWrite failures old new (Err fault.Kept) = ⊥
 AnswersWrite failures old new (Err fault.OtherPlan) = ⊥
+AnswersWrite failures old new (Err fault.OtherReader) = ⊥
 
 -- A text was written to a sink, or a prefix of it where the sink failed, which then is let go.
 pub record WritesText {W : Type 0}
@@ -91,6 +93,7 @@ pub record WritesAnew {O W E : Type 0}
 -- a flush failed, and so is one that is flushed to be opened anew.
 pub record ExportsAnew {O W E : Type 0}
     (text : E → PlanValue → Batch → List ℕ)
+    (takes : E → ℕ → ℕ → Bool)
     (opens : Opening O W)
     (contents : W → Option (List ℕ))
     (failures : W → ℕ)
@@ -98,9 +101,9 @@ pub record ExportsAnew {O W E : Type 0}
     (plan : PlanValue)
     (batch : Batch)
     (answer : Result (Unit {0}) ExportFault) : Type 0 where
-  pub writes : old.state ≡ Open → is_own plan batch ≡ true
+  pub writes : old.state ≡ Open → refuses (takes old.encoding) plan batch ≡ None
       → WritesAnew opens contents failures (text old.encoding plan batch) old new answer
-  pub other_plan : is_own plan batch ≡ false → new ≡ old
+  pub others : refuses (takes old.encoding) plan batch ≢ None → new ≡ old
   pub unwritten : old.state ≢ Open → new ≡ old
 
 -- the open sink was flushed once, and stays open unless that failed; where none is open, nothing is done

@@ -21,6 +21,7 @@ Admits state (Err fault.ShutDown) = state ≡ ShutDown
 Admits state (Err fault.Memory) = ⊥
 Admits state (Err fault.Kept) = ⊥
 Admits state (Err fault.OtherPlan) = ⊥
+Admits state (Err fault.OtherReader) = ⊥
 
 -- what a call may answer, by the state that it finds: an open exporter fails only
 -- where its device failed in this call
@@ -31,6 +32,7 @@ Answers state failed (Err fault.ShutDown) = state ≡ ShutDown
 Answers state failed (Err fault.Memory) = state ≡ Open
 Answers state failed (Err fault.Kept) = state ≡ Open
 Answers state failed (Err fault.OtherPlan) = state ≡ Open
+Answers state failed (Err fault.OtherReader) = state ≡ Open
 
 -- the state after an export or a flush: it stays as it was, but a fault of
 -- the device may break the exporter
@@ -41,6 +43,7 @@ GoesOn old new (Err fault.ShutDown) = new ≡ old
 GoesOn old new (Err fault.Memory) = new ≡ old
 GoesOn old new (Err fault.Kept) = new ≡ old
 GoesOn old new (Err fault.OtherPlan) = new ≡ old
+GoesOn old new (Err fault.OtherReader) = new ≡ old
 
 -- the state after a call with an answer, where each fault of the device breaks the exporter
 abbrev pub state_after : {T : Type 0} → ExporterState → Result T ExportFault → ExporterState
@@ -50,9 +53,10 @@ state_after state (Err fault.ShutDown) = state
 state_after state (Err fault.Memory) = state
 state_after state (Err fault.Kept) = state
 state_after state (Err fault.OtherPlan) = state
+state_after state (Err fault.OtherReader) = state
 
--- by what an exporter in this state refuses a batch of another plan
-abbrev pub refused_in : ExporterState → ExportFault
-refused_in Open = fault.OtherPlan
-refused_in Broken = fault.Write
-refused_in ShutDown = fault.ShutDown
+-- by what an exporter in this state refuses a batch that it would refuse by a fault where it is open
+abbrev pub refused_in : ExportFault → ExporterState → ExportFault
+refused_in why Open = why
+refused_in why Broken = fault.Write
+refused_in why ShutDown = fault.ShutDown

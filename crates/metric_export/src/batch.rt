@@ -1,9 +1,10 @@
 //! The bytes of one batch, written to a sink.
-ghost use Rattle.std.specs.Prelude.{◌≡◌, ◌↔◌, ◌++◌, [], false, IfOk, IsErrOf, OnOk};
+ghost use Rattle.std.specs.Prelude.{◌≡◌, ◌≢◌, ◌++◌, [], true, Err, IfOk, IsErrOf, None, OnOk, Some};
 ghost use Rattle.metric_io.specs.Counts.{HasFailed};
-ghost use Rattle.metric_export.specs.Exports.{Exports, is_own, plan_text};
+ghost use Rattle.metric_export.specs.Exports.{Exports, KeepsNone, plan_text, refuses};
+ghost use Rattle.metric_export.specs.declared.fault.ExportFault.{ExportFault};
 
-use crate::belonging::own_plan;
+use crate::belonging::own_batch;
 use crate::encoding::{Encoding, Plain};
 use crate::fault::ExportFault;
 use metric_history::Batch;
@@ -16,7 +17,8 @@ use std::alloc::{AllocError, Global};
 ///
 /// # Errors
 ///
-/// - [`ExportFault::OtherPlan`] exactly where the batch is of another plan, before anything else.
+/// - [`ExportFault::OtherPlan`] exactly where the batch is of another plan, before anything else. In an encoding that is
+///   made for other readers than the batch's, [`ExportFault::OtherReader`] then.
 /// - [`ExportFault::Write`] where the sink fails or takes nothing. It then holds a prefix of the text.
 /// - [`ExportFault::Memory`], before anything is written.
 pub fn write_batch<W: Sink>(
@@ -31,10 +33,11 @@ pub fn write_batch<W: Sink>(
     ensures failed { IsErrOf result ExportFault.Write →
         HasFailed (W.failures sink.old) (W.failures sink.new) }
     ensures memory { IsErrOf result ExportFault.Memory → sink.new ≡ sink.old }
-    ensures other { IsErrOf result ExportFault.OtherPlan ↔ (is_own plan.now batch.now ≡ false) }
-    ensures unwritten { IsErrOf result ExportFault.OtherPlan → sink.new ≡ sink.old }
+    ensures others { (why : ExportFault)
+        → refuses (λ _ _. true) plan.now batch.now ≡ Some why → result ≡ Err why }
+    ensures unwritten { refuses (λ _ _. true) plan.now batch.now ≢ None → sink.new ≡ sink.old }
+    ensures unkept { KeepsNone (refuses (λ _ _. true) plan.now batch.now) result }
     ensures not_shut_down { IsErrOf result ExportFault.ShutDown → ⊥ }
-    ensures not_kept { IsErrOf result ExportFault.Kept → ⊥ }
 {
     write_encoded(alloc, sink, &Plain, plan, batch)
 }
@@ -57,12 +60,14 @@ pub fn write_encoded<W: Sink, E: Encoding>(
     ensures failed { IsErrOf result ExportFault.Write →
         HasFailed (W.failures sink.old) (W.failures sink.new) }
     ensures memory { IsErrOf result ExportFault.Memory → sink.new ≡ sink.old }
-    ensures other { IsErrOf result ExportFault.OtherPlan ↔ (is_own plan.now batch.now ≡ false) }
-    ensures unwritten { IsErrOf result ExportFault.OtherPlan → sink.new ≡ sink.old }
+    ensures others { (why : ExportFault)
+        → refuses (E.takes encoding.now) plan.now batch.now ≡ Some why → result ≡ Err why }
+    ensures unwritten { refuses (E.takes encoding.now) plan.now batch.now ≢ None
+        → sink.new ≡ sink.old }
+    ensures unkept { KeepsNone (refuses (E.takes encoding.now) plan.now batch.now) result }
     ensures not_shut_down { IsErrOf result ExportFault.ShutDown → ⊥ }
-    ensures not_kept { IsErrOf result ExportFault.Kept → ⊥ }
 {
-    own_plan(plan, batch)?;
+    own_batch(plan, batch, encoding.takes(batch.plan, batch.reader))?;
     let text = text_of(alloc, encoding, plan, batch)?;
     write_all(sink, &text)?;
     Ok(())

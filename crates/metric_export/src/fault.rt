@@ -21,6 +21,9 @@ pub enum ExportFault {
     Kept,
     /// The batch, or one that the exporter keeps, is of another plan than the call's. Nothing was changed.
     OtherPlan,
+    /// The batch, or one that the exporter keeps, is of a reader whose batches the exporter does not take. Nothing was
+    /// changed.
+    OtherReader,
 }
 
 impl ExportFault {
@@ -33,7 +36,8 @@ impl ExportFault {
             ExportFault::Write
             | ExportFault::ShutDown
             | ExportFault::Memory
-            | ExportFault::OtherPlan => false,
+            | ExportFault::OtherPlan
+            | ExportFault::OtherReader => false,
         }
     }
 
@@ -47,6 +51,7 @@ impl ExportFault {
             ExportFault::Memory => 3,
             ExportFault::Kept => 4,
             ExportFault::OtherPlan => 5,
+            ExportFault::OtherReader => 6,
         }
     }
 
@@ -60,6 +65,7 @@ impl ExportFault {
             ExportFault::Memory => "Memory",
             ExportFault::Kept => "Kept",
             ExportFault::OtherPlan => "OtherPlan",
+            ExportFault::OtherReader => "OtherReader",
         }
     }
 }

@@ -40,10 +40,8 @@ pub fn export_each<E: MetricExporter>(
     plan: &Plan,
     batches: &[Batch],
 ) -> Handed
-    ensures handed { let exports =
-        IsExport E.export_gives E.text E.contents E.failures E.state plan.now in
-        HandsOnInOrder exports exporter.old exporter.new batches.now
-        result.taken result.refused }
+    ensures handed { HandsOnInOrder (IsExport E.MetricExporter plan.now) exporter.old exporter.new
+        batches.now result.taken result.refused }
     ensures within { result.taken ≤ length batches.now }
 {
     for (taken, batch) in batches.iter().enumerate() {
@@ -70,9 +68,8 @@ fn refused<E: MetricExporter>(
     plan: &Plan,
     batch: &Batch,
 ) -> Option<ExportFault>
-    ensures { let exports =
-        IsExport E.export_gives E.text E.contents E.failures E.state plan.now in
-        TakesOrRefuses exports exporter.old exporter.new batch.now result }
+    ensures { TakesOrRefuses (IsExport E.MetricExporter plan.now) exporter.old exporter.new batch.now
+        result }
 {
     match exporter.export(alloc, plan, batch) {
         Ok(()) | Err(ExportFault::Kept) => None,

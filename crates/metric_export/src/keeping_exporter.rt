@@ -75,6 +75,10 @@ impl MetricExporter for KeepingExporter {
 
     ghost shutdown_gives = { OnlyShutDown };
 
+    fn takes(&self, _plan: u64, _reader: u32) -> bool {
+        true
+    }
+
     fn export(&mut self, alloc: Global, plan: &Plan, batch: &Batch) -> Result<(), ExportFault> {
         self.state.admit()?;
         own_plan(plan, batch)?;

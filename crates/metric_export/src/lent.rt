@@ -15,6 +15,8 @@ impl<E: MetricExporter> MetricExporter for &mut E {
 
     ghost state = { λ e. E.state e.now };
 
+    ghost takes = { λ e. E.takes e.now };
+
     ghost export_gives = { λ old new. E.export_gives old.now new.now };
 
     ghost flush_gives = { λ old new. E.flush_gives old.now new.now };
@@ -22,6 +24,10 @@ impl<E: MetricExporter> MetricExporter for &mut E {
     ghost retry_gives = { λ old new. E.retry_gives old.now new.now };
 
     ghost shutdown_gives = { λ old new. E.shutdown_gives old.now new.now };
+
+    fn takes(&self, plan: u64, reader: u32) -> bool {
+        MetricExporter::takes(&**self, plan, reader)
+    }
 
     fn export(&mut self, alloc: Global, plan: &Plan, batch: &Batch) -> Result<(), ExportFault> {
         MetricExporter::export(&mut **self, alloc, plan, batch)

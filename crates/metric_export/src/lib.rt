@@ -25,7 +25,7 @@ mod text_exporter;
 mod told_queue;
 
 pub use batch::{write_batch, write_encoded};
-pub use belonging::own_plan;
+pub use belonging::{own_batch, own_plan};
 pub use copies::copy_batch;
 pub use encoding::{Encoding, Plain};
 pub use exporter::MetricExporter;

@@ -1,14 +1,14 @@
 //! An exporter that keeps the batches which another one refused.
-ghost use Rattle.std.specs.Prelude.{◌≡◌, true, false, ◌<◌, ◌≤◌, ◌+◌, ◌-◌, ◌^◌, [], ◌∷◌, ◌++◌, None, drop, if◌then◌else◌, length, vec_len};
+ghost use Rattle.std.specs.Prelude.{◌≡◌, true, false, ◌<◌, ◌≤◌, ◌+◌, ◌-◌, ◌^◌, [], ◌++◌, None, drop, if◌then◌else◌, length, vec_len};
 ghost use Rattle.std.specs.Io.KnownBytes.{Keeps};
-ghost use Rattle.metric_export.specs.ExporterCalls.{IsExport, IsFlush, IsRetry, IsShutdown};
+ghost use Rattle.metric_export.specs.ExporterCalls.{IsExport};
 ghost use Rattle.metric_export.specs.Exports.{is_taken};
 ghost use Rattle.metric_export.specs.Queues.{HandsIn, IsAccounted, PassesFlush, PassesShutdown, RetriesKept};
 ghost use Rattle.metric_export.specs.Queues.{TriesAll, TriesWhenDue, answered, entered, failures_after, is_due, kept_out};
 ghost use Rattle.metric_export.specs.Queues.{longer, new_queue, passed_on, pause_after, paused, retried, wait_after};
 ghost use Rattle.metric_export.specs.States.{GoesOn};
 
-use crate::belonging::{all_own, own_batches};
+use crate::belonging::{own_batch, own_batches};
 use crate::copies::push_copy;
 use crate::exporter::MetricExporter;
 use crate::fault::ExportFault;
@@ -30,7 +30,8 @@ const LONGEST_PAUSE: u32 = 63;
 /// kept, because memory ran out or none may be kept. An export answers [`ExportFault::Kept`] where the batch did not go
 /// out and is kept, and [`ExportFault::Memory`] where it is not: then nobody has it. Where the exporter below wrote a
 /// part of a batch, it is still tried again as a whole. A batch of another plan than a kept one is refused by
-/// [`ExportFault::OtherPlan`], so a queue serves providers of one plan.
+/// [`ExportFault::OtherPlan`], so a queue serves providers of one plan; one of a reader whose batches the exporter below
+/// does not take is refused by [`ExportFault::OtherReader`] and never kept.
 ///
 /// After a try that failed the next export only keeps its batch; after another one the next 3, then 7 and so on up to
 /// 63, as long as something is kept. So a device that is out is not asked for each batch.
@@ -164,23 +165,24 @@ impl<E: MetricExporter> MetricExporter for Queued<E> {
 
     ghost state = { λ q. q.state };
 
-    ghost export_gives = { λ old new plan batch answer.
-        HandsIn (IsExport E.export_gives E.text E.contents E.failures E.state)
-        old new plan batch answer };
+    ghost takes = { λ q. E.takes q.inner };
 
-    ghost flush_gives = { PassesFlush
-        (IsFlush E.flush_gives E.text E.contents E.failures E.state) };
+    ghost export_gives = { HandsIn E.MetricExporter };
 
-    ghost retry_gives = { RetriesKept
-        (IsExport E.export_gives E.text E.contents E.failures E.state)
-        (IsRetry E.retry_gives E.text E.contents E.state) };
+    ghost flush_gives = { PassesFlush E.MetricExporter };
 
-    ghost shutdown_gives = { PassesShutdown
-        (IsShutdown E.shutdown_gives E.contents E.failures E.state) };
+    ghost retry_gives = { RetriesKept E.MetricExporter };
+
+    ghost shutdown_gives = { PassesShutdown E.MetricExporter };
+
+    fn takes(&self, plan: u64, reader: u32) -> bool {
+        self.inner.takes(plan, reader)
+    }
 
     fn export(&mut self, alloc: Global, plan: &Plan, batch: &Batch) -> Result<(), ExportFault> {
         self.state.admit()?;
-        all_own(plan, &self.kept, batch)?;
+        own_batch(plan, batch, self.inner.takes(batch.plan, batch.reader))?;
+        own_batches(&self.inner, plan, &self.kept)?;
         let due = is_due(self.wait, &self.kept);
         let (sent, told) = try_when_due(due, &mut self.inner, alloc, plan, &self.kept, batch);
         let (is_in, lost) = keep(alloc, &mut self.kept, batch, sent, &told, self.most);
@@ -204,13 +206,11 @@ impl<E: MetricExporter> MetricExporter for Queued<E> {
     fn retry(&mut self, alloc: Global, plan: &Plan) -> Result<(), ExportFault>
         ensures text { Keeps None None }
         ensures state { GoesOn self.old.state self.new.state result }
-        ensures gives { RetriesKept
-            (IsExport E.export_gives E.text E.contents E.failures E.state)
-            (IsRetry E.retry_gives E.text E.contents E.state)
-            self.old self.new plan.now result }
+        ensures same_takes { E.takes self.new.inner ≡ E.takes self.old.inner }
+        ensures gives { RetriesKept E.MetricExporter self.old self.new plan.now result }
     {
         self.state.admit()?;
-        own_batches(plan, &self.kept)?;
+        own_batches(&self.inner, plan, &self.kept)?;
         let handed = export_each(&mut self.inner, alloc, plan, &self.kept);
         let below = passed_on(self.inner.retry(alloc, plan));
         discard(&mut self.kept, handed.taken);
@@ -255,9 +255,8 @@ fn try_when_due<E: MetricExporter>(
     kept: &[Batch],
     batch: &Batch,
 ) -> (usize, Result<(), ExportFault>)
-    ensures tries { let exports =
-        IsExport E.export_gives E.text E.contents E.failures E.state plan.now in
-        TriesWhenDue due exports inner.old inner.new kept.now batch.now result.0 result.1 }
+    ensures tries { TriesWhenDue due (IsExport E.MetricExporter plan.now) inner.old inner.new
+        kept.now batch.now result.0 result.1 }
     ensures within { result.0 ≤ length kept.now + 1 }
     ensures all { is_taken result.1 ≡ true → result.0 ≡ length kept.now + 1 }
     ensures some { is_taken result.1 ≡ false → result.0 ≤ length kept.now }
@@ -278,9 +277,8 @@ fn try_all<E: MetricExporter>(
     kept: &[Batch],
     batch: &Batch,
 ) -> (usize, Result<(), ExportFault>)
-    ensures tries { let exports =
-        IsExport E.export_gives E.text E.contents E.failures E.state plan.now in
-        TriesAll exports inner.old inner.new kept.now batch.now result.0 result.1 }
+    ensures tries { TriesAll (IsExport E.MetricExporter plan.now) inner.old inner.new kept.now
+        batch.now result.0 result.1 }
     ensures all { is_taken result.1 ≡ true → result.0 ≡ length kept.now + 1 }
     ensures some { is_taken result.1 ≡ false → result.0 ≤ length kept.now }
 {

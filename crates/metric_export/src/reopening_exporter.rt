@@ -1,12 +1,14 @@
 //! An exporter of texts that opens a new sink after a failure.
-ghost use Rattle.std.specs.Prelude.{◌≡◌, ◌≢◌, IsErrOf, IsOkUnless, None, Result, true};
+ghost use Rattle.std.specs.Prelude.{◌≡◌, ◌≢◌, IsErrOf, IsOkUnless, None, Result};
 ghost use Rattle.metric_io.specs.declared.devices.Broken.{Broken};
-ghost use Rattle.metric_export.specs.Exports.{is_own};
+ghost use Rattle.metric_io.specs.Counts.{HasFailed};
+ghost use Rattle.metric_export.specs.Exports.{refuses};
 ghost use Rattle.metric_export.specs.Reopens.{ExportsAnew, FindsSink, FlushesOpen, FlushesReopening, Reopens, ShutsReopeningDown};
 ghost use Rattle.metric_export.specs.Reopens.{WritesText, WritesToFound};
+ghost use Rattle.metric_export.specs.States.{Answers};
 
 use crate::batch::write_encoded;
-use crate::belonging::own_plan;
+use crate::belonging::own_batch;
 use crate::encoding::{Encoding, Plain};
 use crate::exporter::MetricExporter;
 use crate::fault::ExportFault;
@@ -36,8 +38,8 @@ pub trait OpenSink<W> {
 ///
 /// A sink that failed is let go, so what was written to a sink is whole texts, one after the other, but for the last,
 /// which may be a prefix. A batch whose export failed is not written again: a [`Queued`](crate::Queued) over this
-/// exporter tries that. A file that is renamed meanwhile is written on: [`reopen`](ReopeningExporter::reopen) lets it go. Contracts see the encoding, what opens the sinks, the open sink, the count of the calls that
-/// failed, and the state.
+/// exporter tries that. A file that is renamed meanwhile is written on: [`reopen`](ReopeningExporter::reopen) lets it go.
+/// Contracts see the encoding, what opens the sinks, the open sink, the count of the calls that failed, and the state.
 #[derive(Drop)]
 pub struct ReopeningExporter<O, W, E = Plain> {
     encoding: E,
@@ -104,7 +106,9 @@ impl<O: OpenSink<W>, W: Sink + Drop, E: Encoding + Drop> ReopeningExporter<O, W,
     /// [`ExportFault::Write`] where the flush failed, and the sink is let go all the same; [`ExportFault::ShutDown`] after
     /// a shutdown.
     pub fn reopen(&mut self) -> Result<(), ExportFault>
-        ensures { Reopens W.flush_gives self.old self.new result }
+        ensures answer { Answers self.old.state
+            (HasFailed self.old.failures self.new.failures) result }
+        ensures gives { Reopens W.flush_gives self.old self.new result }
     {
         self.force_flush()?;
         self.sink = None;
@@ -138,15 +142,21 @@ impl<O: OpenSink<W>, W: Sink + Drop, E: Encoding + Drop> MetricExporter
 
     ghost state = { λ e. e.state };
 
-    ghost export_gives = { ExportsAnew E.text O.opens W.contents W.failures };
+    ghost takes = { λ e. E.takes e.encoding };
+
+    ghost export_gives = { ExportsAnew E.text E.takes O.opens W.contents W.failures };
 
     ghost flush_gives = { FlushesReopening W.flush_gives };
 
     ghost shutdown_gives = { ShutsReopeningDown W.flush_gives };
 
+    fn takes(&self, plan: u64, reader: u32) -> bool {
+        self.encoding.takes(plan, reader)
+    }
+
     fn export(&mut self, alloc: Global, plan: &Plan, batch: &Batch) -> Result<(), ExportFault> {
         self.state.admit()?;
-        own_plan(plan, batch)?;
+        own_batch(plan, batch, self.encoding.takes(batch.plan, batch.reader))?;
         let found = take_sink(&mut self.opener, &mut self.sink);
         let (left, answer) = write_to_found(alloc, &self.encoding, plan, batch, found);
         self.sink = left;
@@ -191,7 +201,7 @@ fn write_to_found<W: Sink + Drop, E: Encoding>(
     batch: &Batch,
     found: Result<W, Broken>,
 ) -> (Option<W>, Result<(), ExportFault>)
-    requires { is_own plan.now batch.now ≡ true }
+    requires { refuses (E.takes encoding.now) plan.now batch.now ≡ None }
     ensures written { WritesToFound W.contents W.failures (E.text encoding.now plan.now batch.now)
         found result.0 result.1 }
     ensures not_shut_down { IsErrOf result.1 ExportFault.ShutDown → ⊥ }
@@ -210,7 +220,7 @@ fn write_to<W: Sink + Drop, E: Encoding>(
     batch: &Batch,
     sink: W,
 ) -> (Option<W>, Result<(), ExportFault>)
-    requires { is_own plan.now batch.now ≡ true }
+    requires { refuses (E.takes encoding.now) plan.now batch.now ≡ None }
     ensures written { WritesText W.contents W.failures (E.text encoding.now plan.now batch.now)
         sink result.0 result.1 }
     ensures not_shut_down { IsErrOf result.1 ExportFault.ShutDown → ⊥ }
@@ -223,6 +233,7 @@ fn write_to<W: Sink + Drop, E: Encoding>(
         Err(ExportFault::Memory) => (Some(sink), Err(ExportFault::Memory)),
         Err(ExportFault::Kept) => (Some(sink), Err(ExportFault::Kept)),
         Err(ExportFault::OtherPlan) => (Some(sink), Err(ExportFault::OtherPlan)),
+        Err(ExportFault::OtherReader) => (Some(sink), Err(ExportFault::OtherReader)),
     }
 }
 

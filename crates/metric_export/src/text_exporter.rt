@@ -1,13 +1,13 @@
 //! An exporter that writes batches to a sink.
-ghost use Rattle.std.specs.Prelude.{◌≡◌, ◌≢◌, false, Err, IsErrOf, IsOkUnless, OnOk};
+ghost use Rattle.std.specs.Prelude.{◌≡◌, ◌≢◌, Err, IsErrOf, IsOkUnless, None, OnOk, Some};
 ghost use Rattle.std.specs.Io.KnownBytes.{Keeps};
 ghost use Rattle.metric_io.specs.Counts.{HasFailed, CountsFlush};
 ghost use Rattle.metric_export.specs.ExporterCalls.{ExportsText, FlushesOnce, FlushesText, ShutsTextDown};
-ghost use Rattle.metric_export.specs.Exports.{Exports, KeepsNone, is_own};
+ghost use Rattle.metric_export.specs.Exports.{Exports, KeepsNone, refuses};
 ghost use Rattle.metric_export.specs.States.{Answers, refused_in, state_after};
+ghost use Rattle.metric_export.specs.declared.fault.ExportFault.{ExportFault};
 
 use crate::batch::write_encoded;
-use crate::belonging::own_plan;
 use crate::encoding::{Encoding, Plain};
 use crate::exporter::MetricExporter;
 use crate::fault::ExportFault;
@@ -103,11 +103,17 @@ impl<W: Sink, E: Encoding + Drop> MetricExporter for TextExporter<W, E> {
 
     ghost state = { λ e. e.state };
 
-    ghost export_gives = { ExportsText E.text W.contents W.failures };
+    ghost takes = { λ e. E.takes e.encoding };
+
+    ghost export_gives = { ExportsText E.text E.takes W.contents W.failures };
 
     ghost flush_gives = { FlushesText W.flush_gives };
 
     ghost shutdown_gives = { ShutsTextDown W.contents W.failures W.flush_gives };
+
+    fn takes(&self, plan: u64, reader: u32) -> bool {
+        self.encoding.takes(plan, reader)
+    }
 
     fn export(&mut self, alloc: Global, plan: &Plan, batch: &Batch) -> Result<(), ExportFault>
         ensures text { Exports (W.contents self.old.sink) (W.contents self.new.sink)
@@ -122,13 +128,14 @@ impl<W: Sink, E: Encoding + Drop> MetricExporter for TextExporter<W, E> {
             (W.failures self.new.sink ≡ W.failures self.old.sink) }
         ensures unwritten { self.old.state ≢ ExporterState.Open → self.new ≡ self.old }
         ensures memory { IsErrOf result ExportFault.Memory → self.new ≡ self.old }
-        ensures other_plan { is_own plan.now batch.now ≡ false
-            → result ≡ Err (refused_in self.old.state) }
-        ensures other_unwritten { is_own plan.now batch.now ≡ false → self.new ≡ self.old }
-        ensures unkept { KeepsNone (is_own plan.now batch.now) result }
+        ensures others { (why : ExportFault)
+            → refuses (E.takes self.old.encoding) plan.now batch.now ≡ Some why
+            → result ≡ Err (refused_in why self.old.state) }
+        ensures others_unwritten { refuses (E.takes self.old.encoding) plan.now batch.now ≢ None
+            → self.new ≡ self.old }
+        ensures unkept { KeepsNone (refuses (E.takes self.old.encoding) plan.now batch.now) result }
     {
         self.state.admit()?;
-        own_plan(plan, batch)?;
         let answer = write_encoded(alloc, &mut self.sink, &self.encoding, plan, batch);
         self.state = self.state.after(&answer);
         answer

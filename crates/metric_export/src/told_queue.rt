@@ -1,6 +1,5 @@
 //! A queue whose counts other threads read.
 ghost use Rattle.std.specs.Prelude.{◌≡◌, [], None};
-ghost use Rattle.metric_export.specs.ExporterCalls.{IsExport, IsFlush, IsRetry, IsShutdown};
 ghost use Rattle.metric_export.specs.Queues.{HandsIn, PassesFlush, PassesShutdown, RetriesKept};
 
 use crate::exporter::MetricExporter;
@@ -113,19 +112,19 @@ impl<E: MetricExporter> MetricExporter for ToldQueue<'_, E> {
 
     ghost state = { λ t. t.state };
 
-    ghost export_gives = { λ old new plan batch answer.
-        HandsIn (IsExport E.export_gives E.text E.contents E.failures E.state)
-        old new plan batch answer };
+    ghost takes = { λ q. E.takes q.inner };
 
-    ghost flush_gives = { PassesFlush
-        (IsFlush E.flush_gives E.text E.contents E.failures E.state) };
+    ghost export_gives = { HandsIn E.MetricExporter };
 
-    ghost retry_gives = { RetriesKept
-        (IsExport E.export_gives E.text E.contents E.failures E.state)
-        (IsRetry E.retry_gives E.text E.contents E.state) };
+    ghost flush_gives = { PassesFlush E.MetricExporter };
 
-    ghost shutdown_gives = { PassesShutdown
-        (IsShutdown E.shutdown_gives E.contents E.failures E.state) };
+    ghost retry_gives = { RetriesKept E.MetricExporter };
+
+    ghost shutdown_gives = { PassesShutdown E.MetricExporter };
+
+    fn takes(&self, plan: u64, reader: u32) -> bool {
+        self.queue.takes(plan, reader)
+    }
 
     fn export(&mut self, alloc: Global, plan: &Plan, batch: &Batch) -> Result<(), ExportFault> {
         let answer = self.queue.export(alloc, plan, batch);

@@ -91,6 +91,10 @@ impl MetricExporter for Ledger<'_> {
 
     ghost shutdown_gives = { λ _ _ _. Unit {0} };
 
+    fn takes(&self, _plan: u64, _reader: u32) -> bool {
+        true
+    }
+
     fn export(&mut self, _alloc: Global, plan: &Plan, batch: &Batch) -> Result<(), ExportFault> {
         self.state.admit()?;
         own_plan(plan, batch)?;

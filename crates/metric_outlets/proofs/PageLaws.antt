@@ -12,7 +12,7 @@ closed e = record e { state = ShutDown }
 pub shut_down : {P : Type 0} (replaces : Replacing P) (old new : PageExporterValue P) (answer : Result (Unit {0}) ExportFault)
     → FlushesPage replaces old new answer → ShutsPageDown replaces old (record new { state = ShutDown }) answer
 shut_down replaces old new answer flushes = record {
-  kept = record { dialect = flushes.kept.dialect; target = flushes.kept.target; lines = flushes.kept.lines };
+  kept = record { served = flushes.kept.served; dialect = flushes.kept.dialect; target = flushes.kept.target; lines = flushes.kept.lines };
   state = refl;
   handed = λ was_open. elim (flushes.handed was_open) [
     | inl handed ↦ inl (record { told = handed.told; call = handed.call; passed = handed.passed; counted = handed.counted })

@@ -1,1 +1,2 @@
 pub mod PageCalls
+pub mod Served

@@ -6,7 +6,7 @@ use Rattle.metric_io.specs.declared.devices.Broken.{Broken}
 use Rattle.metric_history.specs.declared.batch.Batch.{Batch}
 use Rattle.metric_plan.specs.Plans.{PlanValue}
 use Rattle.metric_export.specs.ExporterCalls.{flush_answer}
-use Rattle.metric_export.specs.Exports.{KeepsNone, is_own}
+use Rattle.metric_export.specs.Exports.{KeepsNone, refuses}
 use Rattle.metric_export.specs.declared.fault.ExportFault.{ExportFault}
 use Rattle.metric_export.specs.declared.fault.ExportFault.TheVariants as fault
 use Rattle.metric_export.specs.declared.state.ExporterState.{ExporterState}
@@ -14,10 +14,13 @@ use Rattle.metric_export.specs.declared.state.ExporterState.TheVariants.{Open, S
 use Rattle.metric_exposition.specs.Expositions.{exposition}
 use Rattle.metric_exposition.specs.Pages.{end_text}
 use Rattle.metric_exposition.specs.declared.dialect.Dialect.{Dialect}
+use Rattle.metric_outlets.specs.Served.{is_served}
+use Rattle.metric_outlets.specs.declared.served.Served.{Served}
 
--- Such an exporter, as contracts see it: its format, what a page begins with, the last lines of each
+-- Such an exporter, as contracts see it: the reader that it is for, its format, what a page begins with, the last lines of each
 -- instrument, what takes the pages, how often that failed, and its state.
 pub record PageExporterValue (P : Type 0) : Type 0 where
+  pub served : Served
   pub dialect : Dialect
   pub target : List ℕ
   pub lines : List (List ℕ)
@@ -40,7 +43,7 @@ KeepsLines old new plan batch (Ok done) =
           (exposition old.dialect plan.facts.contents plan.streams batch);
     }
 KeepsLines old new plan batch (Err fault) =
-    (new ≡ old) × KeepsNone (is_own plan batch) (Err fault)
+    (new ≡ old) × KeepsNone (refuses (is_served old.served) plan batch) (Err fault)
 
 -- what is said of the replacement of a page: what takes pages before and after it, the page, and the
 -- answer
@@ -62,6 +65,7 @@ pub record HandsOnPage {P : Type 0} (replaces : Replacing P) (old new : PageExpo
 
 -- what is kept stays
 pub record KeepsPage {P : Type 0} (old new : PageExporterValue P) : Type 0 where
+  pub served : new.served ≡ old.served
   pub dialect : new.dialect ≡ old.dialect
   pub target : new.target ≡ old.target
   pub lines : new.lines ≡ old.lines

@@ -35,6 +35,10 @@ impl Exposition {
 impl Encoding for Exposition {
     ghost text = { λ dialect plan batch. exposition dialect plan.facts.contents plan.streams batch };
 
+    fn takes(&self, _plan: u64, _reader: u32) -> bool {
+        true
+    }
+
     fn push(
         &self,
         alloc: Global,

@@ -1,7 +1,12 @@
 //! Batches as OTLP requests.
-ghost use Rattle.std.specs.Prelude.{◌≡◌};
+ghost use Rattle.std.specs.Prelude.{◌≡◌, [], Err, IfOk, MatchResult, Ok, OnOk};
+ghost use Rattle.metric_exposure.specs.Exposures.{exposure_faults};
+ghost use Rattle.metric_exposure.specs.declared.outlet.Outlet.TheVariants.{Otlp};
 ghost use Rattle.metric_otlp.specs.Requests.{request};
+ghost use Rattle.metric_outlets.specs.Served.{exposed, is_served, served_of};
 
+use crate::outlet_fault::OutletFault;
+use crate::served::{Served, served_by_otlp};
 use metric_export::Encoding;
 use metric_history::Batch;
 use metric_otlp::push_request;
@@ -11,32 +16,52 @@ use std::alloc::{AllocError, Global};
 use std::marker::Model;
 
 /// Each batch as a message `ExportMetricsServiceRequest`: the body of a post to `/v1/metrics` of an OpenTelemetry
-/// receiver. Messages one after the other are one message. A batch without points is nothing.
+/// receiver. Messages one after the other are one message. A batch without points is nothing, one
+/// of another reader is refused.
 #[derive(Drop)]
 pub struct OtlpBytes {
+    served: Served,
     resource: Resource,
 }
 
 impl Model for OtlpBytes {
-    ghost use Rattle.std.specs.Prelude.{List};
-    ghost use Rattle.metric_contents.specs.declared.attributes.OwnedAttr.{OwnedAttr};
+    ghost use Rattle.metric_outlets.specs.Served.{OtlpValue};
 
-    ghost Value = { List OwnedAttr };
+    ghost Value = { OtlpValue };
 
-    ghost view = { λ encoding. encoding.resource };
+    ghost view = { λ e. record { served = e.served; resource = e.resource } };
 }
 
 impl OtlpBytes {
-    /// Messages with the attributes of this resource, as `service.name` is.
-    pub fn new(resource: Resource) -> OtlpBytes
-        ensures { result ≡ resource }
+    /// Messages for the batches of a reader of a plan, with the attributes of this resource, as `service.name` is.
+    ///
+    /// # Errors
+    ///
+    /// [`OutletFault::UnknownReader`], or [`OutletFault::Exposed`] where a boundary would leave as another number
+    /// ([`expose_to_otlp`](metric_exposure::expose_to_otlp)). The resource is dropped then.
+    pub fn new(plan: &Plan, reader: u32, resource: Resource) -> Result<OtlpBytes, OutletFault>
+        ensures made { IfOk result (λ made. made ≡ record {
+          served = served_of plan.now reader;
+          resource = resource;
+        }) }
+        ensures check { MatchResult result (λ _. exposed Otlp plan.now reader ≡ Ok tt)
+            (λ fault. exposed Otlp plan.now reader ≡ Err fault) }
+        ensures passes { OnOk result
+            (exposure_faults Otlp plan.now.facts.contents plan.now.streams reader ≡ []) }
     {
-        OtlpBytes { resource }
+        let served = served_by_otlp(plan, reader)?;
+        Ok(OtlpBytes { served, resource })
     }
 }
 
 impl Encoding for OtlpBytes {
-    ghost text = { λ resource plan batch. request resource plan.facts.contents plan.streams batch };
+    ghost text = { λ e plan batch. request e.resource plan.facts.contents plan.streams batch };
+
+    ghost takes = { λ e. is_served e.served };
+
+    fn takes(&self, plan: u64, reader: u32) -> bool {
+        self.served.is(plan, reader)
+    }
 
     fn push(
         &self,

@@ -1,17 +1,22 @@
 //! An exporter that replaces a page after each collection.
 ghost use Rattle.std.specs.Prelude.{◌≡◌, ℕ, ◌⊎◌, [], ◌++◌, IfOk, List, None, OnOk, Result, map, slice_set};
 ghost use Rattle.std.specs.List.{flat_map};
-ghost use Rattle.metric_base.specs.Steps.{GivesBy};
+ghost use Rattle.metric_base.specs.Steps.{GivesBy, with_fault};
 ghost use Rattle.metric_io.specs.declared.devices.Broken.{Broken};
 ghost use Rattle.metric_exposition.specs.Pages.{end_text};
-ghost use Rattle.metric_exposition.specs.TargetFaults.{target_check};
 ghost use Rattle.metric_exposition.specs.Targets.{target_text};
+ghost use Rattle.metric_exposure.specs.Exposures.{exposure_faults};
+ghost use Rattle.metric_exposure.specs.declared.outlet.Outlet.TheVariants.{Prometheus};
 ghost use Rattle.metric_outlets.specs.PageCalls.{FlushesPage, HandsOnPage, KeepsLines, KeepsPage, ShutsPageDown};
+ghost use Rattle.metric_outlets.specs.Served.{is_served, page_check, served_of, told_target};
+ghost use Rattle.metric_exposition.specs.TargetFaults.{target_check};
 
+use crate::outlet_fault::{OutletFault, told_target};
+use crate::served::{Served, served_by_pages};
 use metric_base::Items;
 use metric_contents::Instrument;
-use metric_export::{ExportFault, ExporterState, MetricExporter, own_plan};
-use metric_exposition::{Dialect, TargetFault, push_end, push_exposition, push_target};
+use metric_export::{ExportFault, ExporterState, MetricExporter, own_batch};
+use metric_exposition::{Dialect, push_end, push_exposition, push_target};
 use metric_history::Batch;
 use metric_io::Broken;
 use metric_plan::Plan;
@@ -35,13 +40,15 @@ pub trait Pages {
 /// An exporter that keeps the last lines of each instrument, and hands on the page of all of them at each flush: so
 /// once after each collection of a
 /// [`Periodic`](https://opentelemetry.io/docs/specs/otel/metrics/sdk/#periodic-exporting-metricreader) reader, and at a
-/// shutdown. It is for one reader, with cumulative streams.
+/// shutdown. It is made for one reader, of whose streams a server would hold each sample, and refuses the batches of
+/// another.
 ///
 /// After a failure the next flush hands on the page of all lines again, so that no queue is needed before it. Contracts
-/// see the format, what a page begins with, the lines of each instrument, what takes the pages, the count of its
-/// failures, and the state.
+/// see the reader, the format, what a page begins with, the lines of each instrument, what takes the pages, the count of
+/// its failures, and the state.
 #[derive(Drop)]
 pub struct PageExporter<P> {
+    served: Served,
     dialect: Dialect,
     target: Items<u8>,
     lines: Vec<Items<u8>>,
@@ -58,6 +65,7 @@ impl<P> Model for PageExporter<P> {
     ghost Value = { PageExporterValue P };
 
     ghost view = { λ e. record {
+      served = e.served;
       dialect = e.dialect;
       target = e.target;
       lines = e.lines.items;
@@ -68,18 +76,31 @@ impl<P> Model for PageExporter<P> {
 }
 
 impl<P: Pages + Drop> PageExporter<P> {
-    /// An exporter of pages of this format for the instruments of the plan, with the attributes of this resource. The
-    /// answer is a [`TargetFault`] where they can't be the labels of one line, or memory ran out; what takes the pages
-    /// is dropped then.
+    /// An exporter of pages of this format for a reader of the plan, with the attributes of this resource.
+    ///
+    /// # Errors
+    ///
+    /// - [`OutletFault::UnknownReader`].
+    /// - [`OutletFault::Exposed`] where a server would lose a sample of the reader, or take it for another
+    ///   ([`expose`](metric_exposure::expose)), as of a stream with delta temporality.
+    /// - [`OutletFault::Target`] where the attributes of the resource can't be the labels of one line.
+    /// - [`OutletFault::Memory`].
+    ///
+    /// What takes the pages is dropped then.
     pub fn new(
         alloc: Global,
         plan: &Plan,
+        reader: u32,
         dialect: Dialect,
         resource: &Resource,
         pages: P,
-    ) -> Result<PageExporter<P>, TargetFault>
-        ensures check { GivesBy (λ _. tt) TargetFault.Memory result (target_check resource.now) }
+    ) -> Result<PageExporter<P>, OutletFault>
+        ensures check { GivesBy (λ _. tt) OutletFault.Memory result
+            (page_check plan.now reader resource.now) }
+        ensures passes { OnOk result
+            (exposure_faults Prometheus plan.now.facts.contents plan.now.streams reader ≡ []) }
         ensures exporter { IfOk result (λ e. e ≡ record {
+          served = served_of plan.now reader;
           dialect = dialect;
           target = target_text dialect resource.now;
           lines = map (λ _. []) plan.now.facts.contents.instruments;
@@ -88,12 +109,13 @@ impl<P: Pages + Drop> PageExporter<P> {
           state = ExporterState.Open;
         }) }
     {
-        let mut target = Vec::new(alloc);
-        push_target(alloc, &mut target, dialect, resource)?;
+        let served = served_by_pages(alloc, plan, reader)?;
+        let target = target_of(alloc, dialect, resource)?;
         let lines = no_lines(alloc, plan.catalogue().instruments())?;
         Ok(PageExporter {
+            served,
             dialect,
-            target: Items::from_vec(target),
+            target,
             lines,
             pages,
             page: Vec::new(alloc),
@@ -129,6 +151,19 @@ impl<P: Pages + Drop> PageExporter<P> {
                 Err(ExportFault::Write)
             }
         }
+    }
+}
+
+// What a page begins with.
+fn target_of(alloc: Global, dialect: Dialect, resource: &Resource) -> Result<Items<u8>, OutletFault>
+    ensures check { GivesBy (λ _. tt) OutletFault.Memory result
+        (with_fault told_target (target_check resource.now)) }
+    ensures text { IfOk result (λ text. text ≡ target_text dialect resource.now) }
+{
+    let mut target = Vec::new(alloc);
+    match push_target(alloc, &mut target, dialect, resource) {
+        Ok(()) => Ok(Items::from_vec(target)),
+        Err(fault) => Err(told_target(fault)),
     }
 }
 
@@ -184,15 +219,21 @@ impl<P: Pages + Drop> MetricExporter for PageExporter<P> {
 
     ghost state = { λ e. e.state };
 
+    ghost takes = { λ e. is_served e.served };
+
     ghost export_gives = { KeepsLines };
 
     ghost flush_gives = { FlushesPage P.replaces };
 
     ghost shutdown_gives = { ShutsPageDown P.replaces };
 
+    fn takes(&self, plan: u64, reader: u32) -> bool {
+        self.served.is(plan, reader)
+    }
+
     fn export(&mut self, alloc: Global, plan: &Plan, batch: &Batch) -> Result<(), ExportFault> {
         self.state.admit()?;
-        own_plan(plan, batch)?;
+        own_batch(plan, batch, self.served.is(batch.plan, batch.reader))?;
         let mut lines = Vec::new(alloc);
         push_exposition(
             alloc,

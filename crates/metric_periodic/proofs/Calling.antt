@@ -4,7 +4,8 @@ use Rattle.std.proofs.lemmas.List.{take_all, take_more}
 use Rattle.metric_history.specs.declared.batch.Batch.{Batch}
 use Rattle.metric_export.specs.declared.fault.ExportFault.{ExportFault}
 use Rattle.metric_periodic.specs.Counts.{delayed_after, exported_after, refused_after}
-use Rattle.metric_periodic.specs.Exported.{Answering, Exporting, ExportsEach, ExportsOne, IsFlushed, IsRetried, ShutsDown, Tally, failed_after}
+use Rattle.metric_export.specs.Handings.{Answering, Exporting}
+use Rattle.metric_periodic.specs.Exported.{ExportsEach, ExportsOne, IsFlushed, IsRetried, ShutsDown, Tally, failed_after}
 
 -- one call, and its answer counted
 pub one_exported : {E : Type 0} (exports : Exporting E) (a b : Tally E) (batch : Batch) (answer : Result (Unit {0}) ExportFault)

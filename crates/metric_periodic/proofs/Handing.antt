@@ -1,5 +1,5 @@
 -- What a run hands on, by the calls of the exporter that it makes.
-use Rattle.std.proofs.Common.{◌≡◌, ◌⊎◌, ℕ, ◌<◌, zero, suc, List, [], ◌∷◌, ◌++◌, Option, Some, None, IsSome, map, Result, Ok, Err, inl, inr, ap, sym, ◌∙◌, subst, refl, arith, rules}
+use Rattle.std.proofs.Common.{◌≡◌, ◌⊎◌, ◌||◌, Bool, true, false, ℕ, ◌<◌, zero, suc, List, [], ◌∷◌, ◌++◌, Option, Some, None, IsSome, map, Result, Ok, Err, inl, inr, ap, sym, ◌∙◌, subst, refl, arith, rules}
 use Rattle.metric_io.specs.Counts.{next_count}
 use Rattle.std.specs.Io.KnownBytes.{Keeps}
 use Rattle.metric_export.specs.Exports.{Exports}
@@ -9,8 +9,11 @@ use Rattle.metric_history.specs.declared.batch.Batch.{Batch}
 use Rattle.metric_seat.specs.Seats.{CollectorValue, ProviderValue}
 use Rattle.metric_periodic.specs.Collections.{Collected, Collecting, CollectingLast, CollectsLast}
 use Rattle.metric_periodic.specs.Counts.{AreCalls, Handed, HandsOn, HandsOnNothing, HandsOnToEnd, handed}
-use Rattle.metric_periodic.specs.Exported.{Answering, Exporting, ExportsCollected, ExportsEach, HandsOnCollected, IsFlushed, IsRetried, Tally, failed_after}
+use Rattle.metric_export.specs.ExporterCalls.{Calls}
+use Rattle.metric_export.specs.Handings.{Answering, Exporting}
+use Rattle.metric_periodic.specs.Exported.{ExportsCollected, ExportsEach, HandsOnCollected, IsFlushed, IsRetried, RetriesWhere, Tally, failed_after, gave_none}
 use Rattle.metric_periodic.specs.Runs.{IsRun, ReadsAll}
+use Rattle.metric_periodic.specs.Ticks.{is_woken}
 use Rattle.metric_periodic.specs.Turns.{AreTurns, Giving, Progress}
 
 -- ---- calls one after the other
@@ -102,29 +105,50 @@ retried_nothing retries contents keeping a b p = record {
 abbrev pub SameText : {E : Type 0} → Answering E → (E → Batch → List ℕ) → Type 0
 SameText {E} gives text = (old new : E) (answer : Result (Unit {0}) ExportFault) → gives old new answer → text new ≡ text old
 
-handed_and_flushed : {E : Type 0} (exports : Exporting E) (flushes : Answering E) (text : E → Batch → List ℕ) (contents : E → Option (List ℕ))
-    → Appending exports text contents → Keeping flushes contents → SameText flushes text
-    → (t : Batch → List ℕ) (a b : Tally E) (collected : Collected) → text a.exporter ≡ t → HandsOnCollected exports flushes a b collected
+-- a new try, where one is made
+retried_where : {E : Type 0} (asked : Bool) (retries : Answering E) (text : E → Batch → List ℕ) (contents : E → Option (List ℕ))
+    → Keeping retries contents → SameText retries text
+    → (t : Batch → List ℕ) (a b : Tally E) → text a.exporter ≡ t → RetriesWhere asked retries a b
     → HandsOn t (shown contents a) (shown contents b) × (text b.exporter ≡ t)
-handed_and_flushed exports flushes text contents appending keeping same t a b collected is p =
-    let first = handed_collected exports text contents appending t a p.between collected is p.exported in (
-      hands_on_more t _ _ _ first.0 (hands_on_nothing t _ _ (handed_nothing flushes contents keeping p.between b p.flushed)),
-      same _ _ _ p.flushed.call ∙ first.1,
-    )
+retried_where true retries text contents keeping same t a b is p =
+    (hands_on_nothing t _ _ (retried_nothing retries contents keeping a b p), same _ _ _ p.call ∙ is)
+retried_where false retries text contents keeping same t a b is p = (
+  subst (λ (e : Tally _). HandsOn t (shown contents a) (shown contents e)) (sym p) (hands_on_none t _),
+  ap (λ (e : Tally _). text e.exporter) p ∙ is,
+)
 
-handed_turns : {T C E : Type 0} (gives : Giving T) (collects : Collecting C) (exports : Exporting E) (flushes : Answering E)
-    (text : E → Batch → List ℕ) (contents : E → Option (List ℕ)) → Appending exports text contents → Keeping flushes contents
-    → SameText flushes text → (t : Batch → List ℕ) (made : ℕ) (start end : Progress T C E)
-    → text start.counts.exporter ≡ t → AreTurns gives collects exports flushes made start end
+-- What is said of the calls of an exporter tells what was appended, and that its text stays what it was.
+pub record Tells {E : Type 0} (calls : Calls E) (text : E → Batch → List ℕ) (contents : E → Option (List ℕ)) : Type 0 where
+  pub appending : Appending calls.exports text contents
+  pub flushing : Keeping calls.flushes contents
+  pub same_flushing : SameText calls.flushes text
+  pub trying : Keeping calls.retries contents
+  pub same_trying : SameText calls.retries text
+  pub ending : Keeping calls.shuts_down contents
+
+handed_and_flushed : {E : Type 0} (calls : Calls E) (text : E → Batch → List ℕ) (contents : E → Option (List ℕ))
+    → Tells calls text contents
+    → (t : Batch → List ℕ) (asked : Bool) (a b : Tally E) (collected : Collected) → text a.exporter ≡ t → HandsOnCollected calls asked a b collected
+    → HandsOn t (shown contents a) (shown contents b) × (text b.exporter ≡ t)
+handed_and_flushed calls text contents tells t asked a b collected is p =
+    let first = handed_collected calls.exports text contents tells.appending t a p.between collected is p.exported in
+    let tried = retried_where (asked || gave_none collected) calls.retries text contents tells.trying tells.same_trying t p.between p.settled first.1 p.retried in
+    let last = hands_on_nothing t _ _ (handed_nothing calls.flushes contents tells.flushing p.settled b p.flushed) in
+    (hands_on_more t _ _ _ (hands_on_more t _ _ _ first.0 tried.0) last, tells.same_flushing _ _ _ p.flushed.call ∙ tried.1)
+
+handed_turns : {T C E : Type 0} (gives : Giving T) (collects : Collecting C) (calls : Calls E)
+    (text : E → Batch → List ℕ) (contents : E → Option (List ℕ)) → Tells calls text contents
+    → (t : Batch → List ℕ) (made : ℕ) (start end : Progress T C E)
+    → text start.counts.exporter ≡ t → AreTurns gives collects calls made start end
     → HandsOn t (shown contents start.counts) (shown contents end.counts) × (text end.counts.exporter ≡ t)
-handed_turns {T} {C} {E} gives collects exports flushes text contents appending keeping same t zero start end is p = (
+handed_turns {T} {C} {E} gives collects calls text contents tells t zero start end is p = (
   subst (λ (e : Progress T C E). HandsOn t (shown contents start.counts) (shown contents e.counts)) (sym p) (hands_on_none t _),
   ap (λ (e : Progress T C E). text e.counts.exporter) p ∙ is,
 )
-handed_turns gives collects exports flushes text contents appending keeping same t (suc made) start end is p =
+handed_turns gives collects calls text contents tells t (suc made) start end is p =
     let turn = p.1.1.collected_at in
-    let before = handed_turns gives collects exports flushes text contents appending keeping same t made start p.0 is p.1.0 in
-    let last = handed_and_flushed exports flushes text contents appending keeping same t p.0.counts end.counts turn.collected before.1 turn.exported in
+    let before = handed_turns gives collects calls text contents tells t made start p.0 is p.1.0 in
+    let last = handed_and_flushed calls text contents tells t (is_woken p.1.1.tick) p.0.counts end.counts turn.collected before.1 turn.exported in
     (hands_on_more t _ _ _ before.0 last.0, last.1)
 
 -- a shutdown that failed is one failure more
@@ -133,22 +157,20 @@ failed_or_not old new (Ok done) p = inl p
 failed_or_not old new (Err fault) p = inr p
 
 pub run_hands_on : {T C E : Type 0} (gives : Giving T) (collects : Collecting C) (last : CollectingLast C)
-    (exports : Exporting E) (flushes retries shuts_down : Answering E) (text : E → Batch → List ℕ)
-    (contents : E → Option (List ℕ)) → Appending exports text contents → Keeping flushes contents → SameText flushes text
-    → Keeping retries contents → Keeping shuts_down contents
+    (calls : Calls E) (text : E → Batch → List ℕ) (contents : E → Option (List ℕ)) → Tells calls text contents
     → (most : ℕ) (start : Progress T C E) (ticker : T) (stopped : Option StopCause) (kept : Option C) (counts : Tally E)
-    → IsRun gives collects last exports flushes retries shuts_down most start ticker stopped kept counts
+    → IsRun gives collects last calls most start ticker stopped kept counts
     → HandsOnToEnd (text start.counts.exporter) (shown contents start.counts) (shown contents counts)
-run_hands_on gives collects last exports flushes retries shuts_down text contents appending keeping same trying ending most start ticker stopped kept counts run =
+run_hands_on gives collects last calls text contents tells most start ticker stopped kept counts run =
     let t = text start.counts.exporter in
     let reads = run.reads in
-    let turns = handed_turns gives collects exports flushes text contents appending keeping same t reads.turns.made start _ refl reads.turns.turns in
-    let after = handed_collected exports text contents appending t reads.after_turns reads.before_retry reads.collected turns.1 reads.exported in
-    let tried = hands_on_nothing t _ _ (retried_nothing retries contents trying reads.before_retry run.before_shutdown reads.retried) in
+    let turns = handed_turns gives collects calls text contents tells t reads.turns.made start _ refl reads.turns.turns in
+    let after = handed_collected calls.exports text contents tells.appending t reads.after_turns reads.before_retry reads.collected turns.1 reads.exported in
+    let tried = hands_on_nothing t _ _ (retried_nothing calls.retries contents tells.trying reads.before_retry run.before_shutdown reads.retried) in
     record {
       before = shown contents run.before_shutdown;
       hands_on = hands_on_more t _ _ _ (hands_on_more t _ _ _ turns.0 after.0) tried;
-      kept = ending _ _ _ run.shut_down.call;
+      kept = tells.ending _ _ _ run.shut_down.call;
       exported = run.shut_down.exported;
       delayed = run.shut_down.delayed;
       failed = failed_or_not _ _ run.shut_down.answer run.shut_down.failed;
@@ -174,14 +196,14 @@ refused_kept exports p now seat kept a b (Ok batches) collects exported some =
 refused_kept exports p now seat kept a b (Err fault) collects exported some =
     refused_some a.refused b.refused (refused_each exports _ b fault.done.items exported)
 
-pub run_keeps_refused : {T E : Type 0} (gives : Giving T) (collects : Collecting CollectorValue) (exports : Exporting E)
-    (flushes retries shuts_down : Answering E) (p : ProviderValue) (most : ℕ) (start : Progress T CollectorValue E) (ticker : T)
+pub run_keeps_refused : {T E : Type 0} (gives : Giving T) (collects : Collecting CollectorValue) (calls : Calls E)
+    (p : ProviderValue) (most : ℕ) (start : Progress T CollectorValue E) (ticker : T)
     (stopped : Option StopCause) (kept : Option CollectorValue) (counts : Tally E)
-    → IsRun gives collects (CollectsLast p) exports flushes retries shuts_down most start ticker stopped kept counts
+    → IsRun gives collects (CollectsLast p) calls most start ticker stopped kept counts
     → IsSome kept → 0 < counts.refused
-run_keeps_refused gives collects exports flushes retries shuts_down p most start ticker stopped kept counts run some =
+run_keeps_refused gives collects calls p most start ticker stopped kept counts run some =
     let reads = run.reads in
     let refused : 0 < reads.before_retry.refused =
-    refused_kept exports p _ reads.seat kept reads.after_turns reads.before_retry reads.collected reads.collects_at reads.exported some in
+    refused_kept calls.exports p _ reads.seat kept reads.after_turns reads.before_retry reads.collected reads.collects_at reads.exported some in
     let same : counts.refused ≡ reads.before_retry.refused = run.shut_down.refused ∙ ap (λ (tally : Tally _). tally.refused) reads.retried.counts in
     rw same refused

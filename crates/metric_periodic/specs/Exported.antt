@@ -1,7 +1,9 @@
 -- The calls of an exporter, each for one batch, and how they are counted.
-use Rattle.std.specs.Prelude.{◌≡◌, ℕ, List, [], ◌∷◌, Result, Ok, Err}
+use Rattle.std.specs.Prelude.{◌≡◌, ◌==◌, ◌||◌, ℕ, Bool, true, false, List, [], ◌∷◌, Result, Ok, Err, length}
 use Rattle.metric_io.specs.Counts.{next_count}
 use Rattle.metric_history.specs.declared.batch.Batch.{Batch}
+use Rattle.metric_export.specs.ExporterCalls.{Calls}
+use Rattle.metric_export.specs.Handings.{Answering, Exporting}
 use Rattle.metric_export.specs.declared.fault.ExportFault.{ExportFault}
 use Rattle.metric_periodic.specs.Collections.{Collected, batches_of}
 use Rattle.metric_periodic.specs.Counts.{delayed_after, exported_after, refused_after}
@@ -26,15 +28,6 @@ tally exporter exported failed delayed refused unflushed = record {
   refused = refused;
   unflushed = unflushed;
 }
-
--- what is said of a call of an exporter for a batch: the exporter before and
--- after it, the batch and the answer
-abbrev pub Exporting : Type 0 → Type 1
-Exporting E = E → E → Batch → Result (Unit {0}) ExportFault → Type 0
-
--- what is said of a call of it for no batch, as a flush or its shutdown
-abbrev pub Answering : Type 0 → Type 1
-Answering E = E → E → Result (Unit {0}) ExportFault → Type 0
 
 -- The exporter was called once, for a batch, and its answer counted.
 pub record ExportsOne {E : Type 0}
@@ -102,12 +95,24 @@ pub record ShutsDown {E : Type 0}
   pub refused : new.refused ≡ old.refused
   pub unflushed : new.unflushed ≡ old.unflushed
 
--- A collection was counted, the exporter called for each batch that it gave, and then flushed.
+-- whether a collection gave no batch
+abbrev pub gave_none : Collected → Bool
+gave_none collected = length (batches_of collected) == 0
+
+-- it tried once more what it keeps, where it was to
+abbrev pub RetriesWhere : {E : Type 0} → Bool → Answering E → Tally E → Tally E → Type 0
+RetriesWhere true retries old new = IsRetried retries old new
+RetriesWhere false retries old new = new ≡ old
+
+-- A collection was counted, and the exporter called for each batch that it gave; it tried once more
+-- what it keeps, where that was asked for or there was none; and then it was flushed.
 pub record HandsOnCollected {E : Type 0}
-    (exports : Exporting E)
-    (flushes : Answering E)
+    (calls : Calls E)
+    (asked : Bool)
     (old new : Tally E)
     (collected : Collected) : Type 0 where
   pub between : Tally E
-  pub exported : ExportsCollected exports old between collected
-  pub flushed : IsFlushed flushes between new
+  pub settled : Tally E
+  pub exported : ExportsCollected calls.exports old between collected
+  pub retried : RetriesWhere (asked || gave_none collected) calls.retries between settled
+  pub flushed : IsFlushed calls.flushes settled new

@@ -4,7 +4,8 @@ use Rattle.metric_periodic.specs.Ticks.{moment_of}
 use Rattle.metric_periodic.specs.declared.tick.StopCause.{StopCause}
 use Rattle.metric_periodic.specs.declared.tick.Tick.{Tick}
 use Rattle.metric_periodic.specs.Collections.{Collected, Collecting, CollectingLast}
-use Rattle.metric_periodic.specs.Exported.{Answering, Exporting, ExportsCollected, IsFlushed, IsRetried, ShutsDown, Tally}
+use Rattle.metric_export.specs.ExporterCalls.{Calls}
+use Rattle.metric_periodic.specs.Exported.{ExportsCollected, IsFlushed, IsRetried, ShutsDown, Tally}
 use Rattle.metric_periodic.specs.Turns.{Giving, MakesTurns, Progress, stop_of}
 
 -- After its turns a run makes the last collection, at the moment of the last tick, calls the
@@ -14,9 +15,7 @@ pub record ReadsAll {T C E : Type 0}
     (gives : Giving T)
     (collects : Collecting C)
     (collects_last : CollectingLast C)
-    (exports : Exporting E)
-    (flushes : Answering E)
-    (retries : Answering E)
+    (calls : Calls E)
     (most : ℕ)
     (start : Progress T C E)
     (ticker : T)
@@ -26,24 +25,20 @@ pub record ReadsAll {T C E : Type 0}
   pub last : Tick
   pub seat : C
   pub after_turns : Tally E
-  pub turns : MakesTurns gives collects exports flushes most start ticker last seat
-      after_turns
+  pub turns : MakesTurns gives collects calls most start ticker last seat after_turns
   pub is_stopped : stopped ≡ stop_of last
   pub collected : Collected
   pub collects_at : collects_last (moment_of last) seat kept collected
   pub before_retry : Tally E
-  pub exported : ExportsCollected exports after_turns before_retry collected
-  pub retried : IsRetried retries before_retry counts
+  pub exported : ExportsCollected calls.exports after_turns before_retry collected
+  pub retried : IsRetried calls.retries before_retry counts
 
 -- A run that ends with a shutdown of the exporter.
 pub record IsRun {T C E : Type 0}
     (gives : Giving T)
     (collects : Collecting C)
     (collects_last : CollectingLast C)
-    (exports : Exporting E)
-    (flushes : Answering E)
-    (retries : Answering E)
-    (shuts_down : Answering E)
+    (calls : Calls E)
     (most : ℕ)
     (start : Progress T C E)
     (ticker : T)
@@ -51,18 +46,16 @@ pub record IsRun {T C E : Type 0}
     (kept : Option C)
     (counts : Tally E) : Type 0 where
   pub before_shutdown : Tally E
-  pub reads : ReadsAll gives collects collects_last exports flushes retries most start ticker
-      stopped kept before_shutdown
-  pub shut_down : ShutsDown shuts_down before_shutdown counts
+  pub reads : ReadsAll gives collects collects_last calls most start ticker stopped kept
+      before_shutdown
+  pub shut_down : ShutsDown calls.shuts_down before_shutdown counts
 
 -- A run that leaves the exporter open, and ends with a flush of it.
 pub record IsOpenRun {T C E : Type 0}
     (gives : Giving T)
     (collects : Collecting C)
     (collects_last : CollectingLast C)
-    (exports : Exporting E)
-    (flushes : Answering E)
-    (retries : Answering E)
+    (calls : Calls E)
     (most : ℕ)
     (start : Progress T C E)
     (ticker : T)
@@ -70,6 +63,5 @@ pub record IsOpenRun {T C E : Type 0}
     (kept : Option C)
     (counts : Tally E) : Type 0 where
   pub before_flush : Tally E
-  pub reads : ReadsAll gives collects collects_last exports flushes retries most start ticker
-      stopped kept before_flush
-  pub flushed : IsFlushed flushes before_flush counts
+  pub reads : ReadsAll gives collects collects_last calls most start ticker stopped kept before_flush
+  pub flushed : IsFlushed calls.flushes before_flush counts

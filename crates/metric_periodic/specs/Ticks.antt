@@ -5,7 +5,9 @@ use Rattle.metric_io.specs.Counts.{next_count}
 use Rattle.metric_periodic.specs.declared.tick.StopCause.{StopCause}
 use Rattle.metric_periodic.specs.declared.tick.StopCause.TheVariants.{Clock, Flag, Ticks}
 use Rattle.metric_periodic.specs.declared.tick.Tick.{Tick}
-use Rattle.metric_periodic.specs.declared.tick.Tick.TheVariants.{At, Stop}
+use Rattle.metric_periodic.specs.declared.tick.Tick.TheVariants.{At, Stop, Woken}
+use Rattle.metric_periodic.specs.declared.watch.Waited.{Waited}
+use Rattle.metric_periodic.specs.declared.watch.Waited.TheVariants as waited
 
 -- the ticks that are left, the moment of the last one that was given,
 -- and how often the ticker was asked
@@ -17,7 +19,14 @@ pub record TicksLeft : Type 0 where
 -- the moment of a tick
 abbrev pub moment_of : Tick → ℕ
 moment_of (At moment) = moment
+moment_of (Woken moment) = moment
 moment_of (Stop moment cause) = moment
+
+-- whether a tick was asked for
+abbrev pub is_woken : Tick → Bool
+is_woken (At moment) = false
+is_woken (Woken moment) = true
+is_woken (Stop moment cause) = false
 
 -- the first of some ticks, and where there is none the stop at the last moment
 abbrev pub first_tick : List Tick → ℕ → Tick
@@ -57,6 +66,17 @@ pub record ClockTicksLeft : Type 0 where
   pub last : ℕ
   pub asked : ℕ
 
+-- what ended a wait: the flag, a tick that was asked for, or the time
+abbrev pub was_set : Waited → Bool
+was_set waited.Set = true
+was_set waited.Asked = false
+was_set waited.Over = false
+
+abbrev pub was_asked : Waited → Bool
+was_asked waited.Set = false
+was_asked waited.Asked = true
+was_asked waited.Over = false
+
 -- why the ticker stops after a wait, where it does: no tick is left, else the flag is set, else the
 -- clock has no moment
 abbrev pub stop_cause : ℕ → Bool → Option ℕ → Option StopCause
@@ -68,15 +88,16 @@ abbrev pub moment_told : ℕ → Option ℕ → ℕ
 moment_told last None = last
 moment_told last (Some moment) = max last moment
 
--- the tick of a moment, by why the ticker stops
-abbrev pub tick_by : Option StopCause → ℕ → Tick
-tick_by None moment = At moment
-tick_by (Some cause) moment = Stop moment cause
+-- the tick of a moment, by why the ticker stops and whether it was asked for
+abbrev pub tick_by : Option StopCause → Bool → ℕ → Tick
+tick_by None false moment = At moment
+tick_by None true moment = Woken moment
+tick_by (Some cause) asked moment = Stop moment cause
 
 -- the tick after a wait
-abbrev pub clock_tick : ClockTicksLeft → Bool → Option ℕ → Tick
-clock_tick old is_set moment =
-    tick_by (stop_cause old.left is_set moment) (moment_told old.last moment)
+abbrev pub clock_tick : ClockTicksLeft → Waited → Option ℕ → Tick
+clock_tick old ended moment =
+    tick_by (stop_cause old.left (was_set ended) moment) (was_asked ended) (moment_told old.last moment)
 
 -- whether a cause is that all ticks were given
 abbrev pub is_end : StopCause → Bool
@@ -91,18 +112,22 @@ ClockTicks old new (At moment) =
     (old.last ≤ moment)
     × (new ≡ record old { left = new.left; last = moment; asked = next_count old.asked })
     × (old.left ≡ new.left + 1)
+ClockTicks old new (Woken moment) =
+    (old.last ≤ moment)
+    × (new ≡ record old { left = new.left; last = moment; asked = next_count old.asked })
+    × (old.left ≡ new.left + 1)
 ClockTicks old new (Stop moment cause) =
     (old.last ≤ moment)
     × (is_end cause ≡ (old.left == 0))
     × (new ≡ record old { left = 0; last = moment; asked = next_count old.asked })
 
--- One tick by what a wait for so many nanoseconds tells of the flag, and by what the clock then
--- tells: unless no tick is left, the ticker waits for its period.
-pub record WatchTicks (waits : ℕ → Bool → Type 0) (reads : Option ℕ → Type 0)
+-- One tick by what ended a wait for so many nanoseconds, and by what the clock then tells: unless no
+-- tick is left, the ticker waits for its period.
+pub record WatchTicks (waits : ℕ → Waited → Type 0) (reads : Option ℕ → Type 0)
     (old new : ClockTicksLeft) (tick : Tick) : Type 0 where
-  pub is_set : Bool
+  pub ended : Waited
   pub moment : Option ℕ
-  pub waited : old.left ≢ 0 → waits old.period is_set
+  pub waited : old.left ≢ 0 → waits old.period ended
   pub read : reads moment
-  pub gives : tick ≡ clock_tick old is_set moment
+  pub gives : tick ≡ clock_tick old ended moment
   pub ticks : ClockTicks old new tick

@@ -2,9 +2,11 @@
 use Rattle.std.specs.Prelude.{◌≡◌, ◌<◌, ℕ, zero, suc, Option, Some, None}
 use Rattle.metric_periodic.specs.declared.tick.StopCause.{StopCause}
 use Rattle.metric_periodic.specs.declared.tick.Tick.{Tick}
-use Rattle.metric_periodic.specs.declared.tick.Tick.TheVariants.{At, Stop}
+use Rattle.metric_periodic.specs.declared.tick.Tick.TheVariants.{At, Stop, Woken}
 use Rattle.metric_periodic.specs.Collections.{Collected, Collecting}
-use Rattle.metric_periodic.specs.Exported.{Answering, Exporting, HandsOnCollected, Tally}
+use Rattle.metric_export.specs.ExporterCalls.{Calls}
+use Rattle.metric_periodic.specs.Exported.{HandsOnCollected, Tally}
+use Rattle.metric_periodic.specs.Ticks.{is_woken, moment_of}
 
 -- a reader that was not run: its exporter, and how often it asks its ticker at most
 pub record PeriodicValue (E : Type 0) : Type 0 where
@@ -19,6 +21,7 @@ pub record OpenPeriodicValue (E : Type 0) : Type 0 where
 -- why the ticker stops with a tick, where that is a stop
 abbrev pub stop_of : Tick → Option StopCause
 stop_of (At moment) = None
+stop_of (Woken moment) = None
 stop_of (Stop moment cause) = Some cause
 
 -- how far a run has come: its ticker, the moment of the last tick, the seat,
@@ -37,43 +40,43 @@ progress ticker moment seat counts =
 abbrev pub Giving : Type 0 → Type 1
 Giving T = T → T → Tick → Type 0
 
--- A collection was made at a moment, the exporter called for each batch that it gave, and then
--- flushed.
+-- A collection was made at the moment of a tick, the exporter called for each batch that it gave, for
+-- what it keeps where the tick was asked for or there was none, and then flushed.
 pub record IsCollectedAt {C E : Type 0}
     (collects : Collecting C)
-    (exports : Exporting E)
-    (flushes : Answering E)
-    (moment : ℕ)
+    (calls : Calls E)
+    (tick : Tick)
     (old new : C)
     (before after : Tally E) : Type 0 where
   pub collected : Collected
-  pub collects_at : collects moment old new collected
-  pub exported : HandsOnCollected exports flushes before after collected
+  pub collects_at : collects (moment_of tick) old new collected
+  pub exported : HandsOnCollected calls (is_woken tick) before after collected
 
--- One turn: the ticker gave a moment, and a collection was made at it.
+-- One turn: the ticker gave a tick that is no stop, and a collection was made at its moment.
 pub record IsTurn {T C E : Type 0}
     (gives : Giving T)
     (collects : Collecting C)
-    (exports : Exporting E)
-    (flushes : Answering E)
+    (calls : Calls E)
     (old new : Progress T C E) : Type 0 where
-  pub tick : gives old.ticker new.ticker (At new.moment)
-  pub collected_at : IsCollectedAt collects exports flushes new.moment old.seat new.seat
-      old.counts new.counts
+  pub tick : Tick
+  pub gave : gives old.ticker new.ticker tick
+  pub goes_on : stop_of tick ≡ None
+  pub moment : new.moment ≡ moment_of tick
+  pub collected_at : IsCollectedAt collects calls tick old.seat new.seat old.counts new.counts
 
 -- so many turns, one after the other
-abbrev pub AreTurns : {T C E : Type 0} → Giving T → Collecting C → Exporting E → Answering E → ℕ
-    → Progress T C E → Progress T C E → Type 0
-AreTurns gives collects exports flushes zero old new = new ≡ old
-AreTurns {T} {C} {E} gives collects exports flushes (suc turns) old new =
+abbrev pub AreTurns : {T C E : Type 0} → Giving T → Collecting C → Calls E → ℕ → Progress T C E
+    → Progress T C E → Type 0
+AreTurns gives collects calls zero old new = new ≡ old
+AreTurns {T} {C} {E} gives collects calls (suc turns) old new =
     (mid : Progress T C E)
-    × (AreTurns gives collects exports flushes turns old mid
-    × IsTurn gives collects exports flushes mid new)
+    × (AreTurns gives collects calls turns old mid × IsTurn gives collects calls mid new)
 
 -- How the turns end: all are made and the moment is that of the last tick, or fewer are made
 -- and the ticker then gave a stop.
 abbrev pub EndsTurns : {T : Type 0} → Giving T → ℕ → ℕ → ℕ → T → T → Tick → Type 0
 EndsTurns gives most made moment old new (At last) = (made ≡ most) × ((last ≡ moment) × (new ≡ old))
+EndsTurns gives most made moment old new (Woken last) = ⊥
 EndsTurns gives most made moment old new (Stop last cause) =
     (made < most) × gives old new (Stop last cause)
 
@@ -82,8 +85,7 @@ EndsTurns gives most made moment old new (Stop last cause) =
 pub record MakesTurns {T C E : Type 0}
     (gives : Giving T)
     (collects : Collecting C)
-    (exports : Exporting E)
-    (flushes : Answering E)
+    (calls : Calls E)
     (most : ℕ)
     (start : Progress T C E)
     (ticker : T)
@@ -93,6 +95,5 @@ pub record MakesTurns {T C E : Type 0}
   pub made : ℕ
   pub before : T
   pub moment : ℕ
-  pub turns : AreTurns gives collects exports flushes made start
-      (progress before moment seat counts)
+  pub turns : AreTurns gives collects calls made start (progress before moment seat counts)
   pub ends : EndsTurns gives most made moment before ticker last

@@ -1,11 +1,11 @@
 //! The ticks of a clock.
-ghost use Rattle.std.specs.Prelude.{◌≡◌, ◌*◌};
+ghost use Rattle.std.specs.Prelude.{◌≡◌, ◌*◌, None};
 ghost use Rattle.metric_io.specs.Counts.{next_count};
-ghost use Rattle.metric_periodic.specs.Ticks.{ClockTicks, WatchTicks, clock_tick, moment_told, stop_cause};
+ghost use Rattle.metric_periodic.specs.Ticks.{ClockTicks, WatchTicks, clock_tick, moment_told, stop_cause, tick_by, was_asked};
 
 use crate::stop_flag::StopFlag;
 use crate::tick::{StopCause, Tick, Ticker};
-use crate::watch::{FlagAndClock, Watch};
+use crate::watch::{FlagAndClock, Waited, Watch};
 use std::marker::Model;
 use std::sync::Wait;
 use std::time::{Clock, Duration};
@@ -101,29 +101,43 @@ impl<'a> ClockTicker<'a> {
         }
     }
 
+    // The tick at the last moment, by what ended the wait.
+    fn due(&self, ended: Waited) -> Tick
+        ensures { result ≡ tick_by None (was_asked ended) self.now.last }
+    {
+        match ended {
+            Waited::Asked => Tick::Woken(self.last),
+            Waited::Set | Waited::Over => Tick::At(self.last),
+        }
+    }
+
     // Waits for the period, unless no tick is left, and then reads the clock.
     fn next_by<W: Watch>(&mut self, watch: &W) -> Tick
         ensures ticks { WatchTicks (W.waits watch.now) (W.reads watch.now)
             self.old self.new result }
         ensures asked { self.new.asked ≡ next_count self.old.asked }
     {
-        let is_set = self.left == 0 || watch.is_set_within(self.period, &mut self.seen);
-        self.tick(is_set, watch.moment())
+        let ended = if self.left == 0 {
+            Waited::Set
+        } else {
+            watch.wait(self.period, &mut self.seen)
+        };
+        self.tick(ended, watch.moment())
     }
 
-    // What comes after a wait, at which the flag was set or not and the clock had this moment.
-    fn tick(&mut self, is_set: bool, moment: Option<u64>) -> Tick
-        ensures tick { result ≡ clock_tick self.old is_set moment }
+    // What comes after a wait that this ended, at which the clock had this moment.
+    fn tick(&mut self, ended: Waited, moment: Option<u64>) -> Tick
+        ensures tick { result ≡ clock_tick self.old ended moment }
         ensures after { ClockTicks self.old self.new result }
         ensures asked { self.new.asked ≡ next_count self.old.asked }
     {
         self.asked = self.asked.saturating_add(1);
-        let cause = self.stop_cause(is_set, moment);
+        let cause = self.stop_cause(ended == Waited::Set, moment);
         self.last = self.moment_told(moment);
         match cause {
             None => {
                 self.left -= 1;
-                Tick::At(self.last)
+                self.due(ended)
             }
             Some(cause) => {
                 self.left = 0;

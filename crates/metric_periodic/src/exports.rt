@@ -1,8 +1,8 @@
 //! Collections handed on to an exporter, and counted.
-ghost use Rattle.std.specs.Prelude.{◌≡◌};
+ghost use Rattle.std.specs.Prelude.{◌≡◌, ◌||◌};
 ghost use Rattle.metric_export.specs.ExporterCalls.{IsExport, IsFlush, IsRetry, IsShutdown};
 ghost use Rattle.metric_periodic.specs.Counts.{delayed_after, exported_after, refused_after};
-ghost use Rattle.metric_periodic.specs.Exported.{ExportsCollected, ExportsEach, ExportsOne, IsFlushed, IsRetried, ShutsDown, tally, with_collection};
+ghost use Rattle.metric_periodic.specs.Exported.{ExportsCollected, ExportsEach, ExportsOne, IsFlushed, IsRetried, RetriesWhere, ShutsDown, gave_none, tally, with_collection};
 
 use crate::counts::Listener;
 use metric_export::{ExportFault, MetricExporter};
@@ -65,9 +65,7 @@ impl<E: MetricExporter> Exports<E> {
         plan: &Plan,
         collected: &Result<Vec<Batch>, AllFault>,
     )
-        ensures { let exports =
-            IsExport E.export_gives E.text E.contents E.failures E.state plan.now in
-            ExportsCollected exports self.old self.new collected.now }
+        ensures { ExportsCollected (IsExport E.MetricExporter plan.now) self.old self.new collected.now }
     {
         self.count_collection(collected);
         match collected {
@@ -87,9 +85,7 @@ impl<E: MetricExporter> Exports<E> {
 
     // Hands on each batch in order, once.
     fn hand_on(&mut self, alloc: Global, plan: &Plan, batches: &[Batch])
-        ensures { let exports =
-            IsExport E.export_gives E.text E.contents E.failures E.state plan.now in
-            ExportsEach exports self.old self.new batches.now }
+        ensures { ExportsEach (IsExport E.MetricExporter plan.now) self.old self.new batches.now }
     {
         for batch in batches {
             self.hand_on_one(alloc, plan, batch);
@@ -99,9 +95,7 @@ impl<E: MetricExporter> Exports<E> {
     // Hands on a batch, and counts the exporter's answer.
     #[tactic(auto, using(crate::proofs::Calling::one_exported))]
     fn hand_on_one(&mut self, alloc: Global, plan: &Plan, batch: &Batch)
-        ensures { let exports =
-            IsExport E.export_gives E.text E.contents E.failures E.state plan.now in
-            ExportsOne exports self.old self.new batch.now }
+        ensures { ExportsOne (IsExport E.MetricExporter plan.now) self.old self.new batch.now }
     {
         let answer = self.exporter.export(alloc, plan, batch);
         self.count(&answer);
@@ -137,12 +131,26 @@ impl<E: MetricExporter> Exports<E> {
         );
     }
 
+    /// Lets the exporter try once more what it keeps, where that was asked for or a collection gave no batch.
+    pub(crate) fn retry_where(
+        &mut self,
+        alloc: Global,
+        plan: &Plan,
+        is_asked: bool,
+        collected: &Result<Vec<Batch>, AllFault>,
+    )
+        ensures { RetriesWhere (is_asked || gave_none collected.now)
+            (IsRetry E.MetricExporter plan.now) self.old self.new }
+    {
+        if is_asked || gave_none(collected) {
+            self.retry(alloc, plan);
+        }
+    }
+
     /// Flushes the exporter, and counts its failure.
     #[tactic(auto, using(crate::proofs::Calling::flushed_counted))]
     pub(crate) fn flush(&mut self)
-        ensures { let flushes =
-            IsFlush E.flush_gives E.text E.contents E.failures E.state in
-            IsFlushed flushes self.old self.new }
+        ensures { IsFlushed (IsFlush E.MetricExporter) self.old self.new }
     {
         if self.exporter.force_flush().is_err() {
             self.unflushed = self.unflushed.saturating_add(1);
@@ -152,9 +160,7 @@ impl<E: MetricExporter> Exports<E> {
     /// Lets the exporter try once more what it keeps. What became of that the exporter tells.
     #[tactic(auto, using(crate::proofs::Calling::retried_counted))]
     pub(crate) fn retry(&mut self, alloc: Global, plan: &Plan)
-        ensures { let retries =
-            IsRetry E.retry_gives E.text E.contents E.state plan.now in
-            IsRetried retries self.old self.new }
+        ensures { IsRetried (IsRetry E.MetricExporter plan.now) self.old self.new }
     {
         let _told = self.exporter.retry(alloc, plan);
     }
@@ -162,12 +168,20 @@ impl<E: MetricExporter> Exports<E> {
     /// Shuts the exporter down, and counts its failure.
     #[tactic(auto, using(crate::proofs::Calling::shut_down_counted))]
     pub(crate) fn shut_down(&mut self)
-        ensures { let shuts_down =
-            IsShutdown E.shutdown_gives E.contents E.failures E.state in
-            ShutsDown shuts_down self.old self.new }
+        ensures { ShutsDown (IsShutdown E.MetricExporter) self.old self.new }
     {
         if self.exporter.shutdown().is_err() {
             self.failed = self.failed.saturating_add(1);
         }
+    }
+}
+
+// Whether a collection gave no batch.
+fn gave_none(collected: &Result<Vec<Batch>, AllFault>) -> bool
+    ensures { result ≡ gave_none collected.now }
+{
+    match collected {
+        Ok(batches) => batches.is_empty(),
+        Err(fault) => fault.done.is_empty(),
     }
 }

@@ -1,7 +1,7 @@
 //! A periodic reader that outlives its run.
 ghost use Rattle.std.specs.Prelude.{◌≡◌, ◌+◌, ◌≤◌, None};
 ghost use Rattle.metric_io.specs.Counts.{higher_count};
-ghost use Rattle.metric_export.specs.ExporterCalls.{IsExport, IsFlush, IsRetry};
+ghost use Rattle.metric_export.specs.ExporterCalls.{calls_of};
 ghost use Rattle.metric_periodic.specs.Each.{CollectsLastPatiently, CollectsPatiently};
 ghost use Rattle.metric_periodic.specs.Exported.{tally};
 ghost use Rattle.metric_periodic.specs.Runs.{IsOpenRun};
@@ -72,7 +72,8 @@ impl<E: MetricExporter> OpenPeriodic<E> {
     }
 
     /// Collects at each tick of each instrument, hands on each batch with points in order, and then flushes the
-    /// exporter. An export that fails is not tried again, but by an exporter that keeps its batches.
+    /// exporter. An export that fails is not tried again, but by an exporter that keeps its batches: it tries them where
+    /// no batch had points, and where the tick was asked for by [`StopFlag::wake`](crate::StopFlag::wake).
     ///
     /// When the ticker stops, or was asked as often as it may be, a last collection is made, at the moment of the last
     /// tick, 0 where there was none; then the exporter tries once more what it keeps, and is flushed. It stays open.
@@ -86,12 +87,8 @@ impl<E: MetricExporter> OpenPeriodic<E> {
         ticker: &mut T,
         counts: &RunningCounts,
     ) -> OpenEnd<E>
-        ensures run { let exports = IsExport E.export_gives E.text E.contents E.failures
-            E.state provider.now.plan in
-            let flushes = IsFlush E.flush_gives E.text E.contents E.failures E.state in
-            let retries = IsRetry E.retry_gives E.text E.contents E.state provider.now.plan in
-            IsOpenRun T.next_gives (CollectsPatiently provider.now)
-            (CollectsLastPatiently provider.now) exports flushes retries self.turns
+        ensures run { IsOpenRun T.next_gives (CollectsPatiently provider.now)
+            (CollectsLastPatiently provider.now) (calls_of E.MetricExporter provider.now.plan) self.turns
             (progress ticker.old 0 collector self.counts)
             ticker.new result.stopped result.kept result.reader.counts }
         ensures turns { result.reader.turns ≡ self.turns }

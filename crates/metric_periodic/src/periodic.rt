@@ -1,7 +1,7 @@
 //! The periodic reader.
 ghost use Rattle.std.specs.Prelude.{◌≡◌, ◌+◌, ◌<◌, ◌≤◌, IsSome, None};
 ghost use Rattle.metric_io.specs.Counts.{higher_count};
-ghost use Rattle.metric_export.specs.ExporterCalls.{IsExport, IsFlush, IsRetry, IsShutdown};
+ghost use Rattle.metric_export.specs.ExporterCalls.{calls_of};
 ghost use Rattle.metric_export.specs.declared.state.ExporterState.{ExporterState};
 ghost use Rattle.metric_periodic.specs.Collections.{Collects, CollectsLast};
 ghost use Rattle.metric_periodic.specs.Counts.{HandsOnToEnd, handed};
@@ -75,7 +75,9 @@ impl<E: MetricExporter> Periodic<E> {
 
     /// Collects at each tick, hands on each batch in order, and then flushes the exporter, so that one which holds
     /// batches back can tell where a collection ends. Where a collection is refused, what was collected before is
-    /// handed on. An export that fails is not tried again. Contracts see that each turn makes one collection, at
+    /// handed on. An export that fails is not tried again, but by an exporter that keeps its batches, which tries them
+    /// also where a collection gave none, and where the tick was asked for by
+    /// [`StopFlag::wake`](crate::StopFlag::wake). Contracts see that each turn makes one collection, at
     /// the moment of its tick, calls the exporter once for each batch that the collection gave, and flushes it once.
     ///
     /// When the ticker stops, or was asked as often as it may be, a last collection is made, at the moment of the last
@@ -89,13 +91,8 @@ impl<E: MetricExporter> Periodic<E> {
         collector: Collector,
         ticker: &mut T,
     ) -> PeriodicEnd<E>
-        ensures run { let exports = IsExport E.export_gives E.text E.contents E.failures
-            E.state provider.now.plan in
-            let flushes = IsFlush E.flush_gives E.text E.contents E.failures E.state in
-            let retries = IsRetry E.retry_gives E.text E.contents E.state provider.now.plan in
-            let shuts_down = IsShutdown E.shutdown_gives E.contents E.failures E.state in
-            IsRun T.next_gives (Collects provider.now) (CollectsLast provider.now)
-            exports flushes retries shuts_down self.turns
+        ensures run { IsRun T.next_gives (Collects provider.now) (CollectsLast provider.now)
+            (calls_of E.MetricExporter provider.now.plan) self.turns
             (progress ticker.old 0 collector (tally self.exporter 0 0 0 0 0))
             ticker.new result.stopped result.kept
             (tally result.exporter result.exported result.failed result.delayed
@@ -129,13 +126,8 @@ impl<E: MetricExporter> Periodic<E> {
         ticker: &mut T,
         counts: &RunningCounts,
     ) -> PeriodicEnd<E>
-        ensures run { let exports = IsExport E.export_gives E.text E.contents E.failures
-            E.state provider.now.plan in
-            let flushes = IsFlush E.flush_gives E.text E.contents E.failures E.state in
-            let retries = IsRetry E.retry_gives E.text E.contents E.state provider.now.plan in
-            let shuts_down = IsShutdown E.shutdown_gives E.contents E.failures E.state in
-            IsRun T.next_gives (Collects provider.now) (CollectsLast provider.now)
-            exports flushes retries shuts_down self.turns
+        ensures run { IsRun T.next_gives (Collects provider.now) (CollectsLast provider.now)
+            (calls_of E.MetricExporter provider.now.plan) self.turns
             (progress ticker.old 0 collector (tally self.exporter 0 0 0 0 0))
             ticker.new result.stopped result.kept
             (tally result.exporter result.exported result.failed result.delayed

@@ -1,7 +1,7 @@
 //! The turns of a periodic reader, with any ticker, seat and exporter.
 ghost use Rattle.std.specs.Prelude.{◌≡◌, ◌+◌, ◌≤◌, None};
 ghost use Rattle.metric_io.specs.Counts.{higher_count};
-ghost use Rattle.metric_export.specs.ExporterCalls.{IsExport, IsFlush, IsRetry, IsShutdown};
+ghost use Rattle.metric_export.specs.ExporterCalls.{calls_of};
 ghost use Rattle.metric_periodic.specs.Runs.{IsOpenRun, IsRun, ReadsAll};
 ghost use Rattle.metric_periodic.specs.Turns.{IsCollectedAt, MakesTurns, stop_of, progress};
 
@@ -38,13 +38,8 @@ pub(crate) fn read_to_end<R, P, C: Seat<R, P>, E: MetricExporter, T: Ticker<R>, 
     reading: Reading<'_, C, E, L>,
     ticker: &mut T,
 ) -> Ended<C, E>
-    ensures run { let exports =
-        IsExport E.export_gives E.text E.contents E.failures E.state plan.now in
-        let flushes = IsFlush E.flush_gives E.text E.contents E.failures E.state in
-        let retries = IsRetry E.retry_gives E.text E.contents E.state plan.now in
-        let shuts_down = IsShutdown E.shutdown_gives E.contents E.failures E.state in
-        IsRun T.next_gives (C.collects provider.now) (C.collects_last provider.now)
-        exports flushes retries shuts_down turns
+    ensures run { IsRun T.next_gives (C.collects provider.now) (C.collects_last provider.now)
+        (calls_of E.MetricExporter plan.now) turns
         (progress ticker.old 0 reading.entry.seat reading.entry.exports)
         ticker.new result.stopped result.kept result.exports }
     ensures asked { T.asked ticker.new ≤ T.asked ticker.old + turns }
@@ -80,12 +75,8 @@ pub(crate) fn read_open<R, P, C: Seat<R, P>, E: MetricExporter, T: Ticker<R>, L:
     reading: Reading<'_, C, E, L>,
     ticker: &mut T,
 ) -> Ended<C, E>
-    ensures run { let exports =
-        IsExport E.export_gives E.text E.contents E.failures E.state plan.now in
-        let flushes = IsFlush E.flush_gives E.text E.contents E.failures E.state in
-        let retries = IsRetry E.retry_gives E.text E.contents E.state plan.now in
-        IsOpenRun T.next_gives (C.collects provider.now) (C.collects_last provider.now)
-        exports flushes retries turns
+    ensures run { IsOpenRun T.next_gives (C.collects provider.now) (C.collects_last provider.now)
+        (calls_of E.MetricExporter plan.now) turns
         (progress ticker.old 0 reading.entry.seat reading.entry.exports)
         ticker.new result.stopped result.kept result.exports }
     ensures asked { T.asked ticker.new ≤ T.asked ticker.old + turns }
@@ -111,7 +102,7 @@ pub(crate) fn read_open<R, P, C: Seat<R, P>, E: MetricExporter, T: Ticker<R>, L:
     }
 }
 
-/// Collects at each tick, hands on what was collected and flushes the exporter, until the ticker stops or
+/// Collects at each tick, hands on what was collected, as [`collect_and_export`] says, and flushes the exporter, until the ticker stops or
 /// was asked so many times; then collects once more, at the moment of the last tick, 0 where there was none;
 /// and lets the exporter try once more what it keeps.
 fn read_all<R, P, C: Seat<R, P>, E: MetricExporter, T: Ticker<R>, L: Listener>(
@@ -123,12 +114,8 @@ fn read_all<R, P, C: Seat<R, P>, E: MetricExporter, T: Ticker<R>, L: Listener>(
     reading: Reading<'_, C, E, L>,
     ticker: &mut T,
 ) -> Ended<C, E>
-    ensures run { let exports =
-        IsExport E.export_gives E.text E.contents E.failures E.state plan.now in
-        let flushes = IsFlush E.flush_gives E.text E.contents E.failures E.state in
-        let retries = IsRetry E.retry_gives E.text E.contents E.state plan.now in
-        ReadsAll T.next_gives (C.collects provider.now) (C.collects_last provider.now)
-        exports flushes retries turns
+    ensures run { ReadsAll T.next_gives (C.collects provider.now) (C.collects_last provider.now)
+        (calls_of E.MetricExporter plan.now) turns
         (progress ticker.old 0 reading.entry.seat reading.entry.exports)
         ticker.new result.stopped result.kept result.exports }
     ensures asked { T.asked ticker.new ≤ T.asked ticker.old + turns }
@@ -157,7 +144,7 @@ fn stop_of(last: Tick) -> Option<StopCause>
     ensures { result ≡ stop_of last }
 {
     match last {
-        Tick::At(_) => None,
+        Tick::At(_) | Tick::Woken(_) => None,
         Tick::Stop(_, cause) => Some(cause),
     }
 }
@@ -172,10 +159,7 @@ fn make_turns<R, P, C: Seat<R, P>, E: MetricExporter, T: Ticker<R>, L: Listener>
     reading: &mut Reading<'_, C, E, L>,
     ticker: &mut T,
 ) -> Tick
-    ensures turns { let exports =
-        IsExport E.export_gives E.text E.contents E.failures E.state plan.now in
-        let flushes = IsFlush E.flush_gives E.text E.contents E.failures E.state in
-        MakesTurns T.next_gives (C.collects provider.now) exports flushes turns
+    ensures turns { MakesTurns T.next_gives (C.collects provider.now) (calls_of E.MetricExporter plan.now) turns
         (progress ticker.old 0 reading.old.seat reading.old.exports)
         ticker.new result reading.new.seat reading.new.exports }
     ensures asked { T.asked ticker.new ≤ T.asked ticker.old + turns }
@@ -186,35 +170,36 @@ fn make_turns<R, P, C: Seat<R, P>, E: MetricExporter, T: Ticker<R>, L: Listener>
     for _turn in 0..turns {
         match ticker.next(rt) {
             Tick::Stop(moment, cause) => return Tick::Stop(moment, cause),
-            Tick::At(now) => {
-                collect_and_export(rt, alloc, plan, provider, now, reading);
-                last = now;
+            tick => {
+                collect_and_export(rt, alloc, plan, provider, tick, reading);
+                last = tick.moment();
             }
         }
     }
     Tick::At(last)
 }
 
-// Collects at a moment, hands on what was collected, and flushes the exporter.
+// Collects at the moment of a tick, hands on what was collected, lets the exporter try again what it keeps where the
+// tick was asked for or nothing was handed on, and flushes it.
 fn collect_and_export<R, P, C: Seat<R, P>, E: MetricExporter, L: Listener>(
     rt: &R,
     alloc: Global,
     plan: &Plan,
     provider: &P,
-    now: u64,
+    tick: Tick,
     reading: &mut Reading<'_, C, E, L>,
 )
-    ensures collected { let exports =
-        IsExport E.export_gives E.text E.contents E.failures E.state plan.now in
-        let flushes = IsFlush E.flush_gives E.text E.contents E.failures E.state in
-        IsCollectedAt (C.collects provider.now) exports flushes now
+    ensures collected { IsCollectedAt (C.collects provider.now) (calls_of E.MetricExporter plan.now) tick
         reading.old.seat reading.new.seat reading.old.exports reading.new.exports }
     ensures told { L.told reading.old.listener.now reading.new.exports.exported
         reading.new.exports.failed reading.new.exports.delayed
         reading.new.exports.refused reading.new.exports.unflushed }
 {
-    let collected = reading.seat.collect_at(rt, alloc, provider, now);
+    let collected = reading.seat.collect_at(rt, alloc, provider, tick.moment());
     reading.exports.hand_on_collected(alloc, plan, &collected);
+    reading
+        .exports
+        .retry_where(alloc, plan, tick.is_woken(), &collected);
     reading.exports.flush();
     reading.exports.tell(reading.listener);
 }

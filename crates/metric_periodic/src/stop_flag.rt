@@ -1,4 +1,5 @@
 //! A flag that stops a ticker, and whoever else asks it, or makes a ticker tick at once.
+use crate::watch::Waited;
 use std::sync::{Condvar, Mutex, Wait};
 use std::time::{Clock, Duration};
 
@@ -38,8 +39,9 @@ impl StopFlag {
     }
 
     /// Makes the next tick of each ticker of this flag come at once and not after its period, so that its reader
-    /// collects and exports now, and flushes its exporter (Metrics SDK, force flush). It stops none. A ticker that does
-    /// not wait just now leaves out its next wait; several calls before one tick are answered by that tick.
+    /// collects and exports now, tries again what its exporter keeps, and flushes it (Metrics SDK, force flush). It stops
+    /// none. A ticker that does not wait just now leaves out its next wait; several calls before one tick are answered by
+    /// that tick.
     pub fn wake<R: Wait>(&self, rt: &R) {
         let mut asked = self.asked.lock(rt);
         asked.ticks = asked.ticks.wrapping_add(1);
@@ -61,14 +63,13 @@ impl StopFlag {
         asked.stop
     }
 
-    /// Waits for so long, or until the flag is set or a tick is asked for that `seen` does not count yet. Whether it
-    /// was set.
-    pub(crate) fn is_set_within<R: Wait + Clock>(
+    /// Waits for so long, or until the flag is set or a tick is asked for that `seen` does not count yet.
+    pub(crate) fn wait_or_tick<R: Wait + Clock>(
         &self,
         rt: &R,
         time: Duration,
         seen: &mut u64,
-    ) -> bool {
+    ) -> Waited {
         let known = *seen;
         let (asked, _) = self
             .changed
@@ -76,6 +77,12 @@ impl StopFlag {
                 !asked.stop && asked.ticks == known
             });
         *seen = asked.ticks;
-        asked.stop
+        if asked.stop {
+            Waited::Set
+        } else if asked.ticks == known {
+            Waited::Over
+        } else {
+            Waited::Asked
+        }
     }
 }

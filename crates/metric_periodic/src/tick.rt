@@ -1,7 +1,7 @@
 //! When a periodic reader collects.
 ghost use Rattle.std.specs.Prelude.{◌≡◌, ℕ};
 ghost use Rattle.metric_io.specs.Counts.{next_count};
-ghost use Rattle.metric_periodic.specs.Ticks.{moment_of};
+ghost use Rattle.metric_periodic.specs.Ticks.{is_woken, moment_of};
 ghost use Rattle.metric_periodic.specs.declared.tick.Tick.{Tick};
 
 /// Why a ticker stops.
@@ -20,6 +20,8 @@ pub enum StopCause {
 pub enum Tick {
     /// A collection is due at this moment.
     At(u64),
+    /// A collection was asked for and is made at this moment: what an exporter keeps is then tried again at once.
+    Woken(u64),
     /// The last collection is due, at this moment, for this cause.
     Stop(u64, StopCause),
 }
@@ -30,8 +32,15 @@ impl Tick {
         ensures { result ≡ moment_of self }
     {
         match self {
-            Tick::At(moment) | Tick::Stop(moment, _) => moment,
+            Tick::At(moment) | Tick::Woken(moment) | Tick::Stop(moment, _) => moment,
         }
+    }
+
+    /// Whether the collection was asked for.
+    pub fn is_woken(self) -> bool
+        ensures { result ≡ is_woken self }
+    {
+        matches!(self, Tick::Woken(_))
     }
 }
 

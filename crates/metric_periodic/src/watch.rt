@@ -1,24 +1,35 @@
 //! What a clock's ticker waits by, and what it reads.
-ghost use Rattle.std.specs.Prelude.{◌≡◌, ◌-◌, ◌^◌, ℕ, min, Bool, Option};
+ghost use Rattle.std.specs.Prelude.{◌≡◌, ◌-◌, ◌^◌, ℕ, min, Option};
 ghost use Rattle.std.specs.Duration.{as_nanos};
 ghost use Rattle.std.specs.Time.{system_time_nanos};
+ghost use Rattle.metric_periodic.specs.declared.watch.Waited.{Waited};
 
 use crate::stop_flag::StopFlag;
 use std::sync::Wait;
 use std::time::{Clock, Duration, SystemTime, UNIX_EPOCH};
 
+/// What ended a wait.
+#[derive(Clone, Copy, Debug, PartialEq, Eq, Drop)]
+pub enum Waited {
+    /// The flag was set.
+    Set,
+    /// A tick was asked for.
+    Asked,
+    /// The time was over.
+    Over,
+}
+
 /// A flag to wait for and a clock to read. As a trait, so that a ticker cannot but call it: whether the
 /// flag was set and which moment it is are known by the calls alone.
 pub(crate) trait Watch {
-    // What a wait for so many nanoseconds tells of the flag.
-    ghost waits: { Self → ℕ → Bool → Type 0 };
+    // What ends a wait for so many nanoseconds.
+    ghost waits: { Self → ℕ → Waited → Type 0 };
 
     // What the clock tells.
     ghost reads: { Self → Option ℕ → Type 0 };
 
-    /// Waits for so long, or until the flag is set or asks for a tick that `seen` does not count yet. Whether it was
-    /// set.
-    fn is_set_within(&self, time: Duration, seen: &mut u64) -> bool
+    /// Waits for so long, or until the flag is set or asks for a tick that `seen` does not count yet.
+    fn wait(&self, time: Duration, seen: &mut u64) -> Waited
         ensures { waits self.now (as_nanos time) result };
 
     /// The nanoseconds since 1970, where the clock can be read.
@@ -38,8 +49,8 @@ impl<R: Wait + Clock> Watch for FlagAndClock<'_, R> {
 
     ghost reads = { λ _ _. Unit {0} };
 
-    fn is_set_within(&self, time: Duration, seen: &mut u64) -> bool {
-        self.flag.is_set_within(self.rt, time, seen)
+    fn wait(&self, time: Duration, seen: &mut u64) -> Waited {
+        self.flag.wait_or_tick(self.rt, time, seen)
     }
 
     fn moment(&self) -> Option<u64> {

@@ -1,11 +1,11 @@
 -- Readers that end, one after the other.
 use Rattle.std.proofs.Common.{◌≡◌, ◌⊎◌, inl, inr, ℕ, ◌==◌, Bool, true, false, ◌&&◌, List, [], ◌∷◌, ◌++◌, length, Option, Some, None, subst, sym, refl, arith}
 use Rattle.std.proofs.lemmas.Bool.{eqb-true, false≢true}
+use Rattle.metric_export.specs.ExporterCalls.{Calls}
 use Rattle.metric_export.specs.Handings.{Exporting}
 use Rattle.metric_export.specs.declared.fault.ExportFault.{ExportFault}
 use Rattle.metric_history.specs.declared.batch.Batch.{Batch}
 use Rattle.metric_periodic.specs.Each.{CollectsEach}
-use Rattle.metric_periodic.specs.Exported.{Answering}
 use Rattle.metric_periodic.specs.declared.each.RefusedInstrument.{RefusedInstrument}
 use Rattle.metric_seat.specs.Seats.{CollectorValue, ProviderValue}
 use Rattle.metric_sdk.specs.Endings.{AreRefused, CollectsToEnd, EndsAll, EndsClean, EndsEach, EndsReader, EndsSome, are_clean}
@@ -46,30 +46,30 @@ first_of_four true b c d all = refl
 first_of_four false b c d all = absurd (false≢true all)
 
 -- where nothing is left, all ended and the exporter has sent what it kept and is flushed
-pub all_clean : {E : Type 0} (p : ProviderValue) (now : ℕ) (exports : Exporting E) (retries flushes : Answering E) (a c : E)
+pub all_clean : {E : Type 0} (p : ProviderValue) (now : ℕ) (calls : Calls E) (a c : E)
     (seats : List CollectorValue) (ends : List ReaderEnd) (unasked : List CollectorValue) (unsent unflushed : Option ExportFault)
-    → EndsSome p now exports retries flushes a c seats ends unasked unsent unflushed → are_clean ends unasked unsent unflushed ≡ true
-    → EndsClean p now exports retries flushes a c seats
-all_clean p now exports retries flushes a c seats ends [] None None some clean = record {
+    → EndsSome p now calls a c seats ends unasked unsent unflushed → are_clean ends unasked unsent unflushed ≡ true
+    → EndsClean p now calls a c seats
+all_clean p now calls a c seats ends [] None None some clean = record {
   ends = ends;
   between = some.between;
-  each = asked_all p now exports a some.between seats ends some.all;
+  each = asked_all p now calls.exports a some.between seats ends some.all;
   clean = clean;
   settled = some.settled;
 }
-all_clean p now exports retries flushes a c seats ends [] None (Some fault) some clean = absurd (false≢true clean)
-all_clean p now exports retries flushes a c seats ends [] (Some fault) unflushed some clean = absurd (false≢true clean)
-all_clean p now exports retries flushes a c seats ends (seat ∷ others) unsent unflushed some clean =
+all_clean p now calls a c seats ends [] None (Some fault) some clean = absurd (false≢true clean)
+all_clean p now calls a c seats ends [] (Some fault) unflushed some clean = absurd (false≢true clean)
+all_clean p now calls a c seats ends (seat ∷ others) unsent unflushed some clean =
     absurd (let none = eqb-true (length (seat ∷ others)) 0 (first_of_four _ _ _ _ clean) in omega arith)
 
 -- what is left, as it is told
-pub some_told : {E : Type 0} (p : ProviderValue) (now : ℕ) (exports : Exporting E) (retries flushes : Answering E) (a c : E)
+pub some_told : {E : Type 0} (p : ProviderValue) (now : ℕ) (calls : Calls E) (a c : E)
     (seats : List CollectorValue) (ends told : List ReaderEnd) (unasked others : List CollectorValue)
     (unsent sent unflushed flushed : Option ExportFault)
-    → EndsSome p now exports retries flushes a c seats ends unasked unsent unflushed → told ≡ ends → others ≡ unasked → sent ≡ unsent
-    → flushed ≡ unflushed → EndsSome p now exports retries flushes a c seats told others sent flushed
-some_told p now exports retries flushes a c seats ends told unasked others unsent sent unflushed flushed some same_ends same_others same_sent same_flushed =
-    subst (λ (it : List ReaderEnd). EndsSome p now exports retries flushes a c seats it others sent flushed) (sym same_ends)
-    (subst (λ (it : List CollectorValue). EndsSome p now exports retries flushes a c seats ends it sent flushed) (sym same_others)
-    (subst (λ (it : Option ExportFault). EndsSome p now exports retries flushes a c seats ends unasked it flushed) (sym same_sent)
-    (subst (λ (it : Option ExportFault). EndsSome p now exports retries flushes a c seats ends unasked unsent it) (sym same_flushed) some)))
+    → EndsSome p now calls a c seats ends unasked unsent unflushed → told ≡ ends → others ≡ unasked → sent ≡ unsent
+    → flushed ≡ unflushed → EndsSome p now calls a c seats told others sent flushed
+some_told p now calls a c seats ends told unasked others unsent sent unflushed flushed some same_ends same_others same_sent same_flushed =
+    subst (λ (it : List ReaderEnd). EndsSome p now calls a c seats it others sent flushed) (sym same_ends)
+    (subst (λ (it : List CollectorValue). EndsSome p now calls a c seats ends it sent flushed) (sym same_others)
+    (subst (λ (it : Option ExportFault). EndsSome p now calls a c seats ends unasked it flushed) (sym same_sent)
+    (subst (λ (it : Option ExportFault). EndsSome p now calls a c seats ends unasked unsent it) (sym same_flushed) some)))

@@ -4,10 +4,10 @@ use Rattle.std.specs.Prelude.{◌≡◌, ◌≢◌, ◌⊎◌, ℕ, Bool, true, 
 use Rattle.std.specs.Prelude.{None, Result, Ok, Err, drop, is_none, length}
 use Rattle.std.specs.List.{list_all}
 use Rattle.metric_history.specs.declared.batch.Batch.{Batch}
-use Rattle.metric_export.specs.Handings.{Exporting, HandsOnInOrder}
+use Rattle.metric_export.specs.ExporterCalls.{Calls}
+use Rattle.metric_export.specs.Handings.{Answering, Exporting, HandsOnInOrder}
 use Rattle.metric_export.specs.declared.fault.ExportFault.{ExportFault}
 use Rattle.metric_periodic.specs.Each.{CollectsEach}
-use Rattle.metric_periodic.specs.Exported.{Answering}
 use Rattle.metric_periodic.specs.declared.each.RefusedInstrument.{RefusedInstrument}
 use Rattle.metric_plan.specs.Plans.{PlanValue}
 use Rattle.metric_seat.specs.Seats.{CollectorValue, ProviderValue, RecorderValue}
@@ -114,21 +114,21 @@ AnswersAtEnd gives old new None = gives old new (Ok tt)
 AnswersAtEnd gives old new (Some fault) = gives old new (Err fault)
 
 -- The exporter tried once more what it keeps, and was then flushed, each once; the faults are told.
-pub record SettlesAtEnd {E : Type 0} (retries flushes : Answering E) (old new : E)
+pub record SettlesAtEnd {E : Type 0} (calls : Calls E) (old new : E)
     (unsent unflushed : Option ExportFault) : Type 0 where
   pub between : E
-  pub retried : AnswersAtEnd retries old between unsent
-  pub flushed : AnswersAtEnd flushes between new unflushed
+  pub retried : AnswersAtEnd calls.retries old between unsent
+  pub flushed : AnswersAtEnd calls.flushes between new unflushed
 
 -- Each reader ended, nothing is left of any, and the exporter then has sent all that it kept and is
 -- flushed.
-pub record EndsClean {E : Type 0} (p : ProviderValue) (now : ℕ) (exports : Exporting E)
-    (retries flushes : Answering E) (old new : E) (seats : List CollectorValue) : Type 0 where
+pub record EndsClean {E : Type 0} (p : ProviderValue) (now : ℕ) (calls : Calls E) (old new : E)
+    (seats : List CollectorValue) : Type 0 where
   pub ends : List ReaderEnd
   pub between : E
-  pub each : EndsEach p now exports old between seats ends
+  pub each : EndsEach p now calls.exports old between seats ends
   pub clean : list_all is_clean ends ≡ true
-  pub settled : SettlesAtEnd retries flushes between new None None
+  pub settled : SettlesAtEnd calls between new None None
 
 -- why a provider is not finished, where also the list of the readers' ends may have wanted memory
 abbrev pub IsUnfinished : Result (Unit {0}) FinishFault → FinishFault → Type 0
@@ -151,10 +151,9 @@ plan_of (Err unfinished) = None
 
 -- All readers ended, as is told of each, and the exporter then tried once more what it keeps and
 -- was flushed; or memory ran out before listing them, no reader was asked, and it did the same.
-pub record EndsSome {E : Type 0} (p : ProviderValue) (now : ℕ) (exports : Exporting E)
-    (retries flushes : Answering E) (old new : E) (seats : List CollectorValue)
-    (ends : List ReaderEnd) (unasked : List CollectorValue)
+pub record EndsSome {E : Type 0} (p : ProviderValue) (now : ℕ) (calls : Calls E) (old new : E)
+    (seats : List CollectorValue) (ends : List ReaderEnd) (unasked : List CollectorValue)
     (unsent unflushed : Option ExportFault) : Type 0 where
   pub between : E
-  pub all : EndsAll p now exports old between seats ends unasked
-  pub settled : SettlesAtEnd retries flushes between new unsent unflushed
+  pub all : EndsAll p now calls.exports old between seats ends unasked
+  pub settled : SettlesAtEnd calls between new unsent unflushed

@@ -1,6 +1,6 @@
 //! The end of a service.
 ghost use Rattle.std.specs.Prelude.{◌≡◌, IfErr, IfOk, MatchResult, [], Ok, OnErr, OnOk, false, true};
-ghost use Rattle.metric_export.specs.ExporterCalls.{IsExport, IsFlush, IsRetry};
+ghost use Rattle.metric_export.specs.ExporterCalls.{calls_of};
 ghost use Rattle.metric_provider.specs.Totals.{seated};
 ghost use Rattle.metric_sdk.specs.Endings.{EndsClean, EndsSome, HandsOutPlan, IsTotal, IsUnfinished, are_asked, are_clean, plan_of, totals_of};
 
@@ -35,22 +35,16 @@ pub fn shutdown_all<R: Wait, B: Book, G: Gate, E: MetricExporter>(
     now: u64,
 ) -> Result<Totals, EndFault<B, G>>
     ensures totals { IfOk result (IsTotal B.KEEPS_ENTRIES provider recorders.items) }
-    ensures ended { OnOk result (let exports = IsExport E.export_gives E.text E.contents
-        E.failures E.state provider.plan in
-        let retries = IsRetry E.retry_gives E.text E.contents E.state provider.plan in
-        let flushes = IsFlush E.flush_gives E.text E.contents E.failures E.state in
-        EndsClean provider now exports retries flushes exporter.old exporter.new readers.items) }
+    ensures ended { OnOk result (let calls = calls_of E.MetricExporter provider.plan in
+        EndsClean provider now calls exporter.old exporter.new readers.items) }
     ensures finished { IfErr result (λ left. MatchResult left.finished
         (IsTotal B.KEEPS_ENTRIES provider recorders.items)
         (λ unfinished. (unfinished.provider ≡ provider)
         × (unfinished.recorders.items ≡ recorders.items)
         × IsUnfinished (seated provider recorders.items) unfinished.fault)) }
     ensures plan { IfErr result (λ left. HandsOutPlan provider.plan left.finished left.plan) }
-    ensures readers { IfErr result (λ left. let exports = IsExport E.export_gives E.text
-        E.contents E.failures E.state provider.plan in
-        let retries = IsRetry E.retry_gives E.text E.contents E.state provider.plan in
-        let flushes = IsFlush E.flush_gives E.text E.contents E.failures E.state in
-        EndsSome provider now exports retries flushes exporter.old exporter.new
+    ensures readers { IfErr result (λ left. let calls = calls_of E.MetricExporter provider.plan in
+        EndsSome provider now calls exporter.old exporter.new
         readers.items left.readers.items left.unasked.items left.unsent left.unflushed) }
     ensures asked { IfErr result (λ left. OnOk left.finished
         (are_asked left.unasked.items ≡ true)) }

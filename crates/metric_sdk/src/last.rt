@@ -1,7 +1,7 @@
 //! The last collections of readers, and what their exporter takes of them.
 ghost use Rattle.std.specs.Prelude.{◌≡◌, ◌≤◌, vec_capacity, vec_len};
 ghost use Rattle.std.specs.List.{list_all};
-ghost use Rattle.metric_export.specs.ExporterCalls.{IsExport, IsFlush, IsRetry};
+ghost use Rattle.metric_export.specs.ExporterCalls.{IsExport, IsFlush, IsRetry, calls_of};
 ghost use Rattle.metric_sdk.specs.Endings.{AnswersAtEnd, AreRefused, CollectsToEnd, EndsAll, EndsEach, EndsReader, EndsSome, HandsOn, are_asked, are_clean, are_collected, is_clean, is_collected};
 
 use crate::ended::{ReaderEnd, Uncollected, Unexported};
@@ -36,11 +36,8 @@ pub(crate) fn end_all<R: Wait, B: Book, G: Gate, E: MetricExporter>(
     exporter: &mut E,
     now: u64,
 ) -> LastEnds
-    ensures { let exports = IsExport E.export_gives E.text E.contents
-        E.failures E.state provider.now.plan in
-        let retries = IsRetry E.retry_gives E.text E.contents E.state provider.now.plan in
-        let flushes = IsFlush E.flush_gives E.text E.contents E.failures E.state in
-        EndsSome provider.now now exports retries flushes exporter.old exporter.new
+    ensures { let calls = calls_of E.MetricExporter provider.now.plan in
+        EndsSome provider.now now calls exporter.old exporter.new
         readers.items result.ends.items result.unasked.items result.unsent result.unflushed }
 {
     let (ends, unasked) = ask_all(rt, alloc, provider, readers, exporter, now);
@@ -64,8 +61,7 @@ fn ask_all<R: Wait, B: Book, G: Gate, E: MetricExporter>(
     exporter: &mut E,
     now: u64,
 ) -> (Vec<ReaderEnd>, Vec<Collector>)
-    ensures { let exports = IsExport E.export_gives E.text E.contents
-        E.failures E.state provider.now.plan in
+    ensures { let exports = IsExport E.MetricExporter provider.now.plan in
         EndsAll provider.now now exports exporter.old exporter.new
         readers.items result.0.items result.1.items }
 {
@@ -131,8 +127,7 @@ fn is_collected(end: &ReaderEnd) -> bool
 
 // Lets the exporter retry what it keeps. Returns why some of that was not sent, if it was not.
 fn unsent<E: MetricExporter>(exporter: &mut E, alloc: Global, plan: &Plan) -> Option<ExportFault>
-    ensures { let retries = IsRetry E.retry_gives E.text E.contents E.state plan.now in
-        AnswersAtEnd retries exporter.old exporter.new result }
+    ensures { AnswersAtEnd (IsRetry E.MetricExporter plan.now) exporter.old exporter.new result }
 {
     match exporter.retry(alloc, plan) {
         Ok(()) => None,
@@ -142,8 +137,7 @@ fn unsent<E: MetricExporter>(exporter: &mut E, alloc: Global, plan: &Plan) -> Op
 
 // Flushes the exporter. Returns why it failed, if it did.
 fn flush<E: MetricExporter>(exporter: &mut E) -> Option<ExportFault>
-    ensures { let flushes = IsFlush E.flush_gives E.text E.contents E.failures E.state in
-        AnswersAtEnd flushes exporter.old exporter.new result }
+    ensures { AnswersAtEnd (IsFlush E.MetricExporter) exporter.old exporter.new result }
 {
     match exporter.force_flush() {
         Ok(()) => None,
@@ -163,8 +157,7 @@ fn end_each<R: Wait, B: Book, G: Gate, E: MetricExporter>(
 ) -> Vec<ReaderEnd>
     requires none { vec_len room ≡ 0 }
     requires room { vec_len readers ≤ vec_capacity room }
-    ensures { let exports = IsExport E.export_gives E.text E.contents
-        E.failures E.state provider.now.plan in
+    ensures { let exports = IsExport E.MetricExporter provider.now.plan in
         EndsEach provider.now now exports exporter.old exporter.new
         readers.items result.items }
 {
@@ -184,8 +177,7 @@ fn end_reader<R: Wait, B: Book, G: Gate, E: MetricExporter>(
     exporter: &mut E,
     now: u64,
 ) -> ReaderEnd
-    ensures { let exports = IsExport E.export_gives E.text E.contents
-        E.failures E.state provider.now.plan in
+    ensures { let exports = IsExport E.MetricExporter provider.now.plan in
         EndsReader provider.now now exports exporter.old exporter.new seat result }
 {
     let mut seat = seat;
@@ -232,9 +224,8 @@ fn hand_on<E: MetricExporter>(
     exporter: &mut E,
     batches: Vec<Batch>,
 ) -> Option<Unexported>
-    ensures { let exports =
-        IsExport E.export_gives E.text E.contents E.failures E.state plan.now in
-        HandsOn exports exporter.old exporter.new batches.items result }
+    ensures { HandsOn (IsExport E.MetricExporter plan.now) exporter.old exporter.new batches.items
+        result }
 {
     let handed = export_each(exporter, alloc, plan, batches.as_slice());
     match handed.refused {

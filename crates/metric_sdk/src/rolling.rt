@@ -1,6 +1,6 @@
 //! The end of a run, and the next one.
 ghost use Rattle.std.specs.Prelude.{◌≡◌, ◌==◌, IfErr, IfOk, MatchResult, Ok, OnErr, OnOk, false, length, true};
-ghost use Rattle.metric_export.specs.ExporterCalls.{IsExport, IsFlush, IsRetry};
+ghost use Rattle.metric_export.specs.ExporterCalls.{calls_of};
 ghost use Rattle.metric_provider.specs.Rolling.{RefusesRoll};
 ghost use Rattle.metric_provider.specs.Totals.{seated};
 ghost use Rattle.metric_sdk.specs.Endings.{EndsClean, EndsSome, are_clean, are_collected};
@@ -40,11 +40,8 @@ pub fn roll_over_all<R: Wait, B: Book, G: Gate, E: MetricExporter>(
 ) -> Result<Rolled<B, G>, RollLeft<B, G>>
     ensures rolled { IfOk result (λ next. IsRolled B.KEEPS_ENTRIES provider recorders.items now run
         next.totals next.provider next.recorders.items next.collectors.items) }
-    ensures ended { OnOk result (let exports = IsExport E.export_gives E.text E.contents
-        E.failures E.state provider.plan in
-        let retries = IsRetry E.retry_gives E.text E.contents E.state provider.plan in
-        let flushes = IsFlush E.flush_gives E.text E.contents E.failures E.state in
-        EndsClean provider now exports retries flushes exporter.old exporter.new readers.items) }
+    ensures ended { OnOk result (let calls = calls_of E.MetricExporter provider.plan in
+        EndsClean provider now calls exporter.old exporter.new readers.items) }
     ensures left { IfErr result (λ left. MatchResult left.rolled
         (λ next. IsRolled B.KEEPS_ENTRIES provider recorders.items now run
         next.totals next.provider next.recorders.items next.collectors.items)
@@ -53,11 +50,8 @@ pub fn roll_over_all<R: Wait, B: Book, G: Gate, E: MetricExporter>(
         × IsUnrolled (are_collected left.readers.items left.unasked.items)
         (RefusesRoll B.stands (length provider.plan.facts.instruments) (run == provider.run)
         now (seated provider recorders.items)) unrolled.fault)) }
-    ensures readers { IfErr result (λ left. let exports = IsExport E.export_gives E.text
-        E.contents E.failures E.state provider.plan in
-        let retries = IsRetry E.retry_gives E.text E.contents E.state provider.plan in
-        let flushes = IsFlush E.flush_gives E.text E.contents E.failures E.state in
-        EndsSome provider now exports retries flushes exporter.old exporter.new
+    ensures readers { IfErr result (λ left. let calls = calls_of E.MetricExporter provider.plan in
+        EndsSome provider now calls exporter.old exporter.new
         readers.items left.readers.items left.unasked.items left.unsent left.unflushed) }
     ensures collected { IfErr result (λ left. OnOk left.rolled
         (are_collected left.readers.items left.unasked.items ≡ true)) }

@@ -15,8 +15,8 @@ use metric_sdk::{
     AnySeat, Attr, BoundCounter, ClockTicker, Collector, Counted, Counter, Gauge, Histogram,
     MeterProvider, MetricExporter, NamedText, OtlpLines, Periodic, Plan, Recorder, Resource, Runs,
     ServiceFault, SetupFault, StdSink, StopFlag, TextExporter, Totals, UpDownCounter, counter,
-    diagnose_catalogue, diagnose_config, expose_to_otlp, gauge, histogram, now, open_with_lanes,
-    take_reader, up_down_counter,
+    diagnose_catalogue, diagnose_config, gauge, histogram, now, open_with_lanes, take_reader,
+    up_down_counter,
 };
 use std::alloc::Global;
 use std::env;
@@ -43,6 +43,9 @@ const LANES: u32 = 4;
 
 // A provider, and the seats of its recorders and readers.
 type Opened = (MeterProvider, Vec<Recorder>, Vec<Collector>);
+
+// What adds lines to a file.
+type Lines = TextExporter<StdSink<File>, OtlpLines>;
 
 // The seat of a worker, which counts what it is refused, and how many requests the worker has served.
 type Worker = (Counted, u64);
@@ -112,19 +115,21 @@ fn main(rt: HostRuntime) -> Result<()> {
         bail!("usage: metric_service CATALOGUE CONFIG FILE");
     };
     let (provider, recorders, readers) = opened(&rt, catalogue, config)?;
-    let lines = lines_to(rt.alloc(), added_to().open(&rt, file.as_str())?)?;
+    let file = added_to().open(&rt, file.as_str())?;
     // What takes these lines stamps each one.
     let own = JsonLines::new(StdSink::new(rt.stdout()), Times::LeftOut);
-    let (workers, failed) = serve(&rt, &provider, recorders, readers, lines, own)?;
+    let (workers, failed) = serve(&rt, &provider, recorders, readers, file, own)?;
     settle(&rt, rt.alloc(), provider, workers)?;
     println!(rt; "failed exports by reader: {failed:?}")?;
     Ok(())
 }
 
-// An exporter that adds lines to a file.
-fn lines_to(alloc: Global, file: File) -> Result<TextExporter<StdSink<File>, OtlpLines>> {
+// An exporter that adds the lines of a reader to a file. None is made where a boundary would leave as another one, since
+// the protocol has doubles for them.
+fn lines_to(alloc: Global, plan: &Plan, reader: u32, file: File) -> Result<Lines> {
     let resource = Resource::new(alloc, &[Attr::text("service.name", "shop")])?;
-    Ok(TextExporter::of(OtlpLines::new(resource), StdSink::new(file)))
+    let lines = OtlpLines::new(plan, reader, resource)?;
+    Ok(TextExporter::of(lines, StdSink::new(file)))
 }
 
 // How a file is opened to which lines are added.
@@ -236,14 +241,13 @@ fn serve<R: Threads + Wait + Clock + Sync + AllocGlobal>(
     provider: &MeterProvider,
     recorders: Vec<Recorder>,
     mut readers: Vec<Collector>,
-    lines: TextExporter<StdSink<File>, OtlpLines>,
+    file: File,
     own: JsonLines<StdSink<Stdout>>,
 ) -> Result<(Vec<Worker>, (u64, u64))> {
     let (shop, stop) = (Shop::new(provider.plan())?, StopFlag::new());
     let all = take_reader(provider.plan(), &mut readers, "all").context("no reader \"all\"")?;
     let new = take_reader(provider.plan(), &mut readers, "new").context("no reader \"new\"")?;
-    // No boundary may leave as another one, since the protocol has doubles for them.
-    expose_to_otlp(provider.plan(), all.number())?;
+    let lines = lines_to(rt.alloc(), provider.plan(), all.number(), file)?;
     let mut workers = workers_of(rt.alloc(), provider.plan(), recorders)?;
     let work = |_, worker: &mut Worker| shop.serve(rt, provider, worker);
     let readers = || {

@@ -5,8 +5,8 @@
 
 use anyhow::{Context, Result, bail};
 use metric_sdk::{
-    Attr, Batch, Broken, Dialect, MeterProvider, MetricExporter, PageExporter, Pages, Plan,
-    Recorder, Resource, Runs, counter, export_each, expose, gauge, histogram, open,
+    Attr, Broken, Dialect, MeterProvider, MetricExporter, PageExporter, Pages, Plan, Recorder,
+    Resource, Runs, counter, export_each, gauge, histogram, open,
 };
 use std::alloc::Global;
 use std::env;
@@ -101,11 +101,15 @@ fn run<R: Wait>(rt: &R, alloc: Global, file: TextFile<'_>) -> Result<()> {
     let (provider, mut recorders, mut readers) = open(rt, alloc, CATALOGUE, CONFIG, 0, &mut runs)?;
     let recorder = recorders.first_mut().context("no recorder")?;
     let reader = readers.first_mut().context("no reader")?;
-    // Before anything is recorded: a server would hold each sample.
-    expose(alloc, provider.plan(), reader.number())?;
+    // Before anything is recorded: none is made unless a server would hold each sample.
+    let mut page = page_of(alloc, provider.plan(), reader.number(), file)?;
     back_up(rt, &provider, recorder)?;
     let batches = reader.collect_all(rt, alloc, &provider, 1_000)?;
-    write_page(alloc, provider.plan(), &batches, file)
+    if let Some(fault) = export_each(&mut page, alloc, provider.plan(), &batches).refused {
+        return Err(fault.into());
+    }
+    page.shutdown()?;
+    Ok(())
 }
 
 // Counts the files of the night.
@@ -125,13 +129,13 @@ fn back_up<R: Wait>(rt: &R, provider: &MeterProvider, recorder: &mut Recorder) -
     Ok(())
 }
 
-// Writes batches as the page that a file holds.
-fn write_page(alloc: Global, plan: &Plan, batches: &[Batch], file: TextFile<'_>) -> Result<()> {
+// The page of a reader, which a file holds.
+fn page_of<'a>(
+    alloc: Global,
+    plan: &Plan,
+    reader: u32,
+    file: TextFile<'a>,
+) -> Result<PageExporter<TextFile<'a>>> {
     let resource = Resource::new(alloc, &[Attr::text("service.name", "backup")])?;
-    let mut exporter = PageExporter::new(alloc, plan, Dialect::Text, &resource, file)?;
-    if let Some(fault) = export_each(&mut exporter, alloc, plan, batches).refused {
-        return Err(fault.into());
-    }
-    exporter.shutdown()?;
-    Ok(())
+    Ok(PageExporter::new(alloc, plan, reader, Dialect::Text, &resource, file)?)
 }

@@ -1,14 +1,15 @@
 //! Tests of how runs end: what is left where an exporter fails, the call that begins the next run, and a reader that
 //! outlives its run.
-use crate::asserted::OrFail;
+use crate::asserted::{OrFail, assert_equal};
 use crate::failing::{Failing, failing_at};
 use crate::page::Page;
-use crate::services::{Service, hit_once};
+use crate::services::{CUMULATIVE, DELTA, HITS, Service, hit_once};
 use metric_sdk::{
     EndFault, KeepingExporter, ListTicker, Marked, MetricExporter, NoGate, OpenPeriodic, Plan,
     Queued, ReaderEnd, RollLeft, RunningCounts, StopCause, Tick, collect_each, roll_over_all,
     shutdown_all,
 };
+use std::alloc::Global;
 use std::process::Abort;
 use std::sync::Wait;
 
@@ -322,6 +323,64 @@ fn a_reader_outlives_its_run(rt: HostRuntime) {
     let mut page = Page::new(&rt, rt.alloc());
     tell_outlived(&mut page);
     page.assert(OUTLIVED);
+}
+
+// A queue of four over an exporter that fails at these calls, and the ticks of its reader. In the end how many batches
+// went out, are kept and were dropped, and how often the exporter was called.
+struct Waiting {
+    config: &'static str,
+    fails_at: &'static [u64],
+    ticks: &'static [Tick],
+    told: [u64; 4],
+}
+
+const WAITING: &[Waiting] = &[
+    // After the first tick nothing is recorded: what is kept is tried again at 20 and at 30.
+    Waiting {
+        config: DELTA,
+        fails_at: &[1, 2],
+        ticks: &[
+            Tick::At(10),
+            Tick::At(20),
+            Tick::At(30),
+            Tick::Stop(40, StopCause::Flag),
+        ],
+        told: [1, 0, 0, 3],
+    },
+    // A batch comes at each tick, and three are let pass after 30. The tick at 40 was asked for, before the fifth batch
+    // drops the first.
+    Waiting {
+        config: CUMULATIVE,
+        fails_at: &[1, 2],
+        ticks: &[
+            Tick::At(10),
+            Tick::At(20),
+            Tick::At(30),
+            Tick::Woken(40),
+            Tick::At(50),
+            Tick::Stop(60, StopCause::Flag),
+        ],
+        told: [6, 0, 0, 8],
+    },
+];
+
+fn counts_of<R: Abort + Wait>(rt: &R, alloc: Global, case: &Waiting) -> [u64; 4] {
+    let mut service = Service::new(rt, alloc, HITS, case.config, 7);
+    service.record(rt, 0, &[], 5);
+    let seat = service.readers.pop().expect(rt, "no reader");
+    let reader = OpenPeriodic::new(Queued::new(alloc, failing_at(alloc, case.fails_at), 4), 9);
+    let (mut ticker, counts) = (ListTicker::new(case.ticks), RunningCounts::new());
+    let end = reader.run(rt, alloc, &service.provider, seat, &mut ticker, &counts);
+    let queue = end.reader.into_exporter();
+    let kept = queue.kept().len() as u64;
+    [queue.sent(), kept, queue.dropped(), queue.inner().number]
+}
+
+#[test]
+fn what_is_kept_is_tried_again_in_time(rt: HostRuntime) {
+    for case in WAITING {
+        assert_equal(&rt, counts_of(&rt, rt.alloc(), case), case.told);
+    }
 }
 
 // Of each collection how many batches there are, and what was refused: by another provider, and by its own at 10 and

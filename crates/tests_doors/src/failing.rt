@@ -31,6 +31,10 @@ impl MetricExporter for Failing {
 
     ghost shutdown_gives = { λ _ _ _. Unit {0} };
 
+    fn takes(&self, _plan: u64, _reader: u32) -> bool {
+        true
+    }
+
     fn export(&mut self, _alloc: Global, plan: &Plan, batch: &Batch) -> Result<(), ExportFault> {
         self.state.admit()?;
         own_plan(plan, batch)?;

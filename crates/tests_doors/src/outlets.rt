@@ -2,12 +2,13 @@
 //! after each collection.
 use crate::asserted::{OrFail, assert_equal};
 use crate::calls::{Call, Lent, make};
+use crate::ends::end;
 use crate::page::Page;
 use crate::services::Service;
 use metric_sdk::{
-    Attr, Batch, Broken, CutSink, Dialect, Encoding, Exposition, MetricExporter, OtlpBytes,
-    OtlpLines, PageExporter, Pages, Resource, ResourceFault, Runs, TextExporter, counter,
-    histogram, open,
+    Attr, Batch, Broken, CutSink, Dialect, Encoding, ExportFault, Exposition, MetricExporter,
+    OtlpBytes, OtlpLines, OutletFault, PageExporter, Pages, Plan, Queued, Resource, ResourceFault,
+    Runs, TextExporter, counter, histogram, open,
 };
 use std::alloc::Global;
 use std::process::Abort;
@@ -176,9 +177,10 @@ fn batches_leave_in_each_encoding(rt: HostRuntime) {
     let alloc = rt.alloc();
     let sources = make_sources(&rt, alloc);
     let mut page = Page::new(&rt, alloc);
-    let lines = OtlpLines::new(resource(&rt, alloc));
+    let plan = sources.service.provider.plan();
+    let lines = OtlpLines::new(plan, 0, resource(&rt, alloc)).or_fail(&rt);
     tell_encoded(&mut page, lines, sources.lent());
-    let bytes = OtlpBytes::new(resource(&rt, alloc));
+    let bytes = OtlpBytes::new(plan, 0, resource(&rt, alloc)).or_fail(&rt);
     tell_encoded(&mut page, bytes, sources.lent());
     page.push("\n");
     let lines = Exposition::new(Dialect::Text);
@@ -196,6 +198,21 @@ const PAGES: &[(Call, &[&str])] = &[
     (Call::Flush, &["2 ShutDown\n", TARGET, HITS, SIZES]),
 ];
 
+// An exporter of pages for a reader.
+fn pages_of<R: Abort>(
+    rt: &R,
+    alloc: Global,
+    plan: &Plan,
+    reader: u32,
+) -> Result<PageExporter<Shelf>, OutletFault> {
+    let shelf = Shelf {
+        page: Vec::new(alloc),
+        calls: 0,
+    };
+    let till = resource(rt, alloc);
+    PageExporter::new(alloc, plan, reader, Dialect::Text, &till, shelf)
+}
+
 // Makes a call, and writes the answer and the last page.
 fn tell_page<R: Abort>(
     page: &mut Page<'_, R>,
@@ -212,21 +229,60 @@ fn a_page_is_handed_on_after_each_collection(rt: HostRuntime) {
     let alloc = rt.alloc();
     let sources = make_sources(&rt, alloc);
     let lent = sources.lent();
-    let shelf = Shelf {
-        page: Vec::new(alloc),
-        calls: 0,
-    };
-    let made = PageExporter::new(
-        alloc,
-        lent.plan,
-        Dialect::Text,
-        &resource(&rt, alloc),
-        shelf,
-    );
-    let mut exporter = made.or_fail(&rt);
+    let mut exporter = pages_of(&rt, alloc, lent.plan, 0).or_fail(&rt);
     for (call, wanted) in PAGES {
         let mut page = Page::new(&rt, alloc);
         tell_page(&mut page, &mut exporter, lent, call);
         page.assert(wanted.concat(alloc).or_fail(&rt).as_str());
     }
+}
+
+// A delta reader, and a cumulative one.
+const BOTH: &str = "format = 1
+[[reader]]
+name = 'new'
+temporality = { counter = 'delta', histogram = 'delta' }
+[[reader]]
+name = 'all'
+";
+
+// Why no page is made for the delta reader, nor for a third. What an end with both readers leaves, where the page is
+// the second one's: its totals, the batch of the first one, which is refused again, and that nothing is kept.
+const TAKEN: &str = "2 Exposed: 1 Delta of stream 0
+1 UnknownReader
+finished; reader 0, 1 batches not exported: 6 OtherReader
+[Total { count: 1, sum: 7 }, Total { count: 0, sum: 0 }]
+6 OtherReader
+done
+0
+";
+
+#[test]
+fn an_output_takes_the_batches_of_its_reader(rt: HostRuntime) {
+    let alloc = rt.alloc();
+    let mut page = Page::new(&rt, alloc);
+    let mut service = Service::new(&rt, alloc, CATALOGUE, BOTH, 1);
+    service.record(&rt, 0, &[], 7);
+    let plan = service.provider.plan();
+    for reader in [0, 2] {
+        page.answer(pages_of(&rt, alloc, plan, reader).map(|_| ()));
+    }
+    let made = pages_of(&rt, alloc, plan, 1).or_fail(&rt);
+    let mut queue = Queued::new(alloc, made, 4);
+    end(&mut page, service, &mut queue, 20);
+    page.tell(queue.kept().len());
+    page.assert(TAKEN);
+}
+
+// A batch of the first reader is not written as a line for the second.
+#[test]
+fn lines_are_of_their_reader(rt: HostRuntime) {
+    let alloc = rt.alloc();
+    let mut service = Service::new(&rt, alloc, CATALOGUE, BOTH, 1);
+    let batch = service.collect(&rt, alloc, 0, 10);
+    let plan = service.provider.plan();
+    let lines = OtlpLines::new(plan, 1, resource(&rt, alloc)).or_fail(&rt);
+    let mut exporter = TextExporter::of(lines, CutSink::new(alloc, None));
+    let told = exporter.export(alloc, plan, &batch);
+    assert_equal(&rt, told, Err(ExportFault::OtherReader));
 }

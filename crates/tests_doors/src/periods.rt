@@ -235,6 +235,10 @@ struct Dots;
 impl Encoding for Dots {
     ghost text = { λ _ _ _. 46 ∷ [] };
 
+    fn takes(&self, _plan: u64, _reader: u32) -> bool {
+        true
+    }
+
     fn push(
         &self,
         _alloc: Global,

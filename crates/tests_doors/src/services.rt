@@ -152,6 +152,9 @@ name = 'd'
 temporality = { counter = 'delta' }
 ";
 
+/// A cumulative reader.
+pub(crate) const CUMULATIVE: &str = "format = 1\n[[reader]]\nname = 'c'\n";
+
 /// The counter without keys for a delta reader, after a recording of 5.
 pub(crate) fn hit_once<R: Abort + Wait>(rt: &R, alloc: Global, run: u64) -> Service {
     let mut service = Service::new(rt, alloc, HITS, DELTA, run);

@@ -108,7 +108,7 @@ fn a_clock_is_read_after_each_period(rt: HostRuntime) {
 }
 
 // A tick that is asked for comes at once, and those after it wait again: how often the clock was read then.
-const WOKEN: &[(Tick, u64)] = &[(Tick::At(5), 1), (Tick::At(6), 6), (Tick::At(7), 11)];
+const WOKEN: &[(Tick, u64)] = &[(Tick::Woken(5), 1), (Tick::At(6), 6), (Tick::At(7), 11)];
 
 #[test]
 fn a_woken_clock_waits_again(rt: HostRuntime) {

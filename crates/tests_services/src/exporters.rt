@@ -71,6 +71,8 @@ const FAULTS: &[ExportFault] = &[
     ExportFault::ShutDown,
     ExportFault::Memory,
     ExportFault::Kept,
+    ExportFault::OtherPlan,
+    ExportFault::OtherReader,
 ];
 
 fn tell_call<R: Abort, E: MetricExporter>(
@@ -134,5 +136,5 @@ fn faults_are_printed(rt: HostRuntime) {
     for fault in FAULTS {
         page.say(*fault);
     }
-    page.assert("1 Write\n2 ShutDown\n3 Memory\n4 Kept\n");
+    page.assert("1 Write\n2 ShutDown\n3 Memory\n4 Kept\n5 OtherPlan\n6 OtherReader\n");
 }

@@ -37,6 +37,10 @@ impl MetricExporter for WaveringExporter {
 
     ghost shutdown_gives = { λ _ new _. new.state ≡ ShutDown };
 
+    fn takes(&self, _plan: u64, _reader: u32) -> bool {
+        true
+    }
+
     fn export(&mut self, _alloc: Global, plan: &Plan, batch: &Batch) -> Result<(), ExportFault> {
         self.state.admit()?;
         own_plan(plan, batch)?;

@@ -49,6 +49,10 @@ impl Encoding for Lines {
 
     ghost text = { lines_text };
 
+    fn takes(&self, _plan: u64, _reader: u32) -> bool {
+        true
+    }
+
     fn push(
         &self,
         alloc: Global,

@@ -28,6 +28,10 @@ impl Encoding for Otlp<'_> {
 
     ghost text = { otlp_text };
 
+    fn takes(&self, _plan: u64, _reader: u32) -> bool {
+        true
+    }
+
     fn push(
         &self,
         alloc: Global,

@@ -41,8 +41,14 @@ pub(crate) fn write<R: Clock + Stop>(
     watch.count(u64::from(case.size), u64::from(case.size));
     match format {
         Format::Text => write_in(rt, alloc, case, &Plain, is_copied, watch),
-        Format::Bytes => write_in(rt, alloc, case, &OtlpBytes::new(resource), is_copied, watch),
-        Format::Lines => write_in(rt, alloc, case, &OtlpLines::new(resource), is_copied, watch),
+        Format::Bytes => {
+            let bytes = OtlpBytes::new(&case.plan(rt, alloc), 0, resource).or_fail(rt);
+            write_in(rt, alloc, case, &bytes, is_copied, watch)
+        }
+        Format::Lines => {
+            let lines = OtlpLines::new(&case.plan(rt, alloc), 0, resource).or_fail(rt);
+            write_in(rt, alloc, case, &lines, is_copied, watch)
+        }
         Format::Page => {
             let page = Exposition::new(Dialect::Text);
             write_in(rt, alloc, case, &page, is_copied, watch)

@@ -6,5 +6,4 @@ use Rattle.metric_export.proofs.handing.export_each.Given as goal
 
 abbrev pub invariant-loop-taken : goal.invariant-loop-taken
 invariant-loop-taken g l =
-    let e = g.E.MetricExporter in
-    TakesEach (IsExport e.export_gives e.text e.contents e.failures e.state l.plan) l.fn.exporter l.exporter (take l.taken l.batches)
+    TakesEach (IsExport g.E.MetricExporter l.plan) l.fn.exporter l.exporter (take l.taken l.batches)

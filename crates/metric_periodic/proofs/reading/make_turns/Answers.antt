@@ -1,13 +1,19 @@
 use Rattle.std.proofs.Common.{refl, arith, rules}
-use Rattle.metric_periodic.proofs.Turning.{one_more_turn}
+use Rattle.metric_periodic.proofs.Turning.{no_stop, one_more_turn}
 use Rattle.metric_periodic.proofs.reading.make_turns.Goals as goal
 
 pub loop-turn-preserved : goal.loop-turn-preserved
 loop-turn-preserved g c = record {
   most = search rules;
   least = search rules;
-  turns = one_more_turn _ _ _ _ c.loop-turn._turn _ _ _ c.loop-turn.invariant.turns
-      (record { tick = c.in-At.ensures.gives; collected_at = c.collect_and_export.ensures.collected });
+  turns = one_more_turn _ _ _ c.loop-turn._turn _ _ _ c.loop-turn.invariant.turns
+      (record {
+        tick = c.next.result;
+        gave = c.next.ensures.gives;
+        goes_on = no_stop c.next.result c.in_default.not-Stop;
+        moment = c.moment-last.ensures;
+        collected_at = c.collect_and_export.ensures.collected;
+      });
 }
 
 pub returns-in-Stop-clause-turns : goal.returns-in-Stop-clause-turns

@@ -7,8 +7,7 @@ use Rattle.metric_sdk.proofs.last.end_each.Given as goal
 
 abbrev pub invariant-loop-seat : goal.invariant-loop-seat
 invariant-loop-seat g l =
-    let e = g.E.MetricExporter in
     record {
-      ended : EndsEach l.provider l.now (IsExport e.export_gives e.text e.contents e.failures e.state l.provider.plan) l.fn.exporter l.exporter l.yielded l.ends.items;
+      ended : EndsEach l.provider l.now (IsExport g.E.MetricExporter l.provider.plan) l.fn.exporter l.exporter l.yielded l.ends.items;
       room : vec_len l.ends + into_iter_len l.seat-iterator ≤ vec_capacity l.ends;
     }

@@ -1,20 +1,22 @@
 -- what is left of the queue is kept, and each answer is counted
-use Rattle.std.proofs.Common.{◌≡◌, Bool, List, true≢false, ap, subst, sym, rules, ◌∙◌}
-use Rattle.metric_history.specs.declared.batch.Batch.{Batch}
+use Rattle.std.proofs.Common.{◌≡◌, Bool, ap, subst, rules, ◌∙◌}
+use Rattle.std.proofs.lemmas.Result.{err_from_is_err_and}
 use Rattle.metric_export.specs.ExporterCalls.{IsExport}
-use Rattle.metric_export.specs.Queues.{TriesWhenDue, are_own, is_due, pause_after, wait_after}
+use Rattle.metric_export.specs.Queues.{TriesWhenDue, is_due, pause_after, wait_after}
+use Rattle.metric_export.proofs.OthersLaws.{answers_refused, none_of_all, none_refused, not_both, same_of_tries, some_refused}
 use Rattle.metric_export.proofs.queued.QueuedMetricExporter.export.Goals as goal
 
 pub returns-clause-gives : goal.returns-clause-gives
 returns-clause-gives g c =
-    let e = g.E.MetricExporter in
-    let exports = IsExport e.export_gives e.text e.contents e.failures e.state c.args.plan.now in
+    let exports = IsExport g.E.MetricExporter c.args.plan.now in
     let old = c.self.inside in
     let told = c.try_when_due-sent.result.1 in
     let due : c.is_due-due.result ≡ is_due old.wait old.kept.items = c.is_due-due.ensures ∙ ap (is_due old.wait) c.deref-2.ensures.value in
+    let first = none_refused _ _ (rw c.takes.ensures at c.in_ok-own_batch.ensures) in
+    let none = none_of_all _ _ first (none_refused _ _ (rw c.deref.ensures.value at c.in_ok-own_batches.ensures)) in
     rw (← c.self.view_is)
     (record {
-      when_open = λ open_state own. record {
+      when_open = λ open_state _. record {
         sent = c.try_when_due-sent.result.0;
         told = told;
         lost = c.keep-is_in.result.1;
@@ -40,6 +42,18 @@ returns-clause-gives g c =
         most = search rules;
         state = search rules;
       };
-      when_other = λ open_state other. absurd (true≢false (sym c.in_ok-all_own.ensures.own ∙ ap (λ (ks : List Batch). are_own c.args.plan.now ks c.args.batch.now) c.deref.ensures.value ∙ other));
+      when_other = λ open_state why other. absurd (not_both _ why none other);
       when_shut = λ shut. absurd (shut c.in_ok-admit.ensures);
     })
+
+pub returns-clause-same_takes : goal.returns-clause-same_takes
+returns-clause-same_takes g c =
+    rw (← c.self.view_is)
+    (same_of_tries g.E.MetricExporter c.args.plan.now _ _ _ _ _ _ _ c.try_when_due-sent.ensures.tries)
+
+pub returns-in_err-own_batches-clause-answer : goal.returns-in_err-own_batches-clause-answer
+returns-in_err-own_batches-clause-answer g c =
+    let p = err_from_is_err_and c.from_residual-in_err-own_batches.result c.from_residual-in_err-own_batches.ensures.1 in
+    rw (← c.self.view_is, p.1, p.2)
+    (answers_refused _ _ (g.E.MetricExporter.takes c.self.inside.inner) c.args.plan.now c.deref.result.now c.in_err-own_batches.field-0.0 c.in_ok-admit.ensures
+    (some_refused _ _ c.in_err-own_batches.ensures))

@@ -1,5 +1,6 @@
 -- the text is written to the sink that is open, or else to a new one
-use Rattle.std.proofs.Common.{refl, sym, true≢false, ◌∙◌}
+use Rattle.std.proofs.Common.{refl}
+use Rattle.metric_export.proofs.OthersLaws.{none_refused}
 use Rattle.metric_export.proofs.reopening_exporter.ReopeningExporterMetricExporter.export.Goals as goal
 
 pub returns-clause-gives : goal.returns-clause-gives
@@ -14,6 +15,6 @@ returns-clause-gives g c =
         state = refl;
         encoding = refl;
       };
-      other_plan = λ other. absurd (true≢false (sym c.in_ok-own_plan.ensures.own ∙ other));
+      others = λ other. absurd (other (none_refused _ _ (rw c.takes.ensures at c.in_ok-own_batch.ensures)));
       unwritten = λ shut. absurd (shut c.in_ok-admit.ensures);
     })
