@@ -6,6 +6,11 @@ mod Rising
 mod Series
 mod Claimed
 mod Ends
+mod Places
+mod Pigeons
+mod Chain
+mod Shown
 mod KeyTurns
 mod FirstFault
 pub mod PointsApart
+pub mod Renamed

@@ -23,8 +23,8 @@ use Rattle.metric_exposure.specs.declared.fault.ExposureFault.{ExposureFault}
 use Rattle.metric_exposure.specs.declared.fault.ExposureFault.TheVariants as faults
 use Rattle.metric_exposure.specs.declared.outlet.Outlet.TheVariants.{Prometheus}
 use Rattle.metric_exposure.specs.Collisions.{collision_by, first_claim, is_claimed, is_of_target, name_fault}
-use Rattle.metric_exposure.specs.Exposures.{boundary_faults, exposure_faults, fault_if, faults_at, keys_of, name_faults, page_faults}
-use Rattle.metric_exposure.specs.KeyFaults.{all_key_faults, are_confused, key_faults, label_fault, own_labels, place_faults, taken_labels, value_fault}
+use Rattle.metric_exposure.specs.Exposures.{boundary_faults, exposure_faults, fault_if, faults_at, keys_of, name_faults, page_faults, reserved_of}
+use Rattle.metric_exposure.specs.KeyFaults.{all_key_faults, are_confused, key_faults, label_fault, place_faults, taken_labels, value_fault}
 use Rattle.metric_exposure.specs.Laws.{FamiliesAreApart, LabelsAreSound, NamesAreSound, NoneClaimsTheTarget, Passes}
 use Rattle.metric_exposure.proofs.Firsts.{faults_own}
 
@@ -69,18 +69,18 @@ module _ (contents : Contents) (streams : List Stream) (reader number : ℕ) (st
       ∙ ap (faults_at Prometheus contents streams reader) here ∙ none
 
   rest_none : name_faults (first_claim reader (take number streams)) number stream
-      ++ all_key_faults number (type_of stream) (keys_of contents stream) stream.kept ≡ []
+      ++ all_key_faults number (reserved_of contents stream) (keys_of contents stream) stream.kept ≡ []
   unfolding page_faults
   rest_none =
-      let rest = name_faults (first_claim reader (take number streams)) number stream ++ all_key_faults number (type_of stream) (keys_of contents stream) stream.kept in
+      let rest = name_faults (first_claim reader (take number streams)) number stream ++ all_key_faults number (reserved_of contents stream) (keys_of contents stream) stream.kept in
       back_none (boundary_faults number stream) rest (back_none (fault_if (is_delta_temporality stream.temporality) (faults.Delta number)) (boundary_faults number stream ++ rest) page_none)
 
   names_none : name_faults (first_claim reader (take number streams)) number stream ≡ []
   names_none =
-      front_none (name_faults (first_claim reader (take number streams)) number stream) (all_key_faults number (type_of stream) (keys_of contents stream) stream.kept) rest_none
+      front_none (name_faults (first_claim reader (take number streams)) number stream) (all_key_faults number (reserved_of contents stream) (keys_of contents stream) stream.kept) rest_none
 
-  keys_none : all_key_faults number (type_of stream) (keys_of contents stream) stream.kept ≡ []
-  keys_none = back_none (name_faults (first_claim reader (take number streams)) number stream) (all_key_faults number (type_of stream) (keys_of contents stream) stream.kept) rest_none
+  keys_none : all_key_faults number (reserved_of contents stream) (keys_of contents stream) stream.kept ≡ []
+  keys_none = back_none (name_faults (first_claim reader (take number streams)) number stream) (all_key_faults number (reserved_of contents stream) (keys_of contents stream) stream.kept) rest_none
 
   pub has_name : (length (family stream) == 0) ≡ false
   has_name =
@@ -93,18 +93,18 @@ module _ (contents : Contents) (streams : List Stream) (reader number : ℕ) (st
       not_there collision (back_none (fault_if (length (family stream) == 0) (faults.Nameless number)) (option_to_list collision) names_none)
 
   no_fault_at : (place : ℕ) (key : Key) → slice_get (keys_of contents stream) place ≡ Some key → slice_get stream.kept place ≡ Some true
-      → key_faults number place (taken_labels (type_of stream) (take place (keys_of contents stream)) (take place stream.kept)) key ≡ []
+      → key_faults number place (taken_labels (reserved_of contents stream) (take place (keys_of contents stream)) (take place stream.kept)) key ≡ []
   unfolding all_key_faults place_faults
   no_fault_at place key at kept =
       let keys = keys_of contents stream in
-      let none = none_at (place_faults number (type_of stream) keys stream.kept) 0 (length keys) place keys_none (slice_get_within keys place key at) in
+      let none = none_at (place_faults number (reserved_of contents stream) keys stream.kept) 0 (length keys) place keys_none (slice_get_within keys place key at) in
       let here : 0 + place ≡ place = omega arith in
       rw (here, at, kept) at none
 
   pub good_label : (place : ℕ) (key : Key) → slice_get (keys_of contents stream) place ≡ Some key → slice_get stream.kept place ≡ Some true
-      → label_fault number place (taken_labels (type_of stream) (take place (keys_of contents stream)) (take place stream.kept)) (label_of key.name) ≡ None
+      → label_fault number place (taken_labels (reserved_of contents stream) (take place (keys_of contents stream)) (take place stream.kept)) (label_of key.name) ≡ None
   good_label place key at kept =
-      let taken = taken_labels (type_of stream) (take place (keys_of contents stream)) (take place stream.kept) in
+      let taken = taken_labels (reserved_of contents stream) (take place (keys_of contents stream)) (take place stream.kept) in
       not_put (label_fault number place taken (label_of key.name)) (cons_option (value_fault number place key) []) (no_fault_at place key at kept)
 
 not_taken : (stream place : ℕ) (taken : List (List ℕ)) (label : List ℕ) → label_fault stream place taken label ≡ None → is_among taken label ≡ false
@@ -129,11 +129,11 @@ not_behind (Some fault) xs e = absurd cc
 -- the labels and the values of a kept key
 pub key_passes : (contents : Contents) (streams : List Stream) (reader number : ℕ) (stream : Stream) → Passes contents streams reader number stream
     → (place : ℕ) (key : Key) → slice_get (keys_of contents stream) place ≡ Some key → slice_get stream.kept place ≡ Some true
-    → (is_among (own_labels (type_of stream) ++ map label_of (kept_names (take place (keys_of contents stream)) (take place stream.kept))) (label_of key.name) ≡ false)
+    → (is_among (reserved_of contents stream ++ map label_of (kept_names (take place (keys_of contents stream)) (take place stream.kept))) (label_of key.name) ≡ false)
     × (are_confused key ≡ false)
 unfolding taken_labels
 key_passes contents streams reader number stream p place key at kept =
-    let taken = taken_labels (type_of stream) (take place (keys_of contents stream)) (take place stream.kept) in
+    let taken = taken_labels (reserved_of contents stream) (take place (keys_of contents stream)) (take place stream.kept) in
     let none = no_fault_at contents streams reader number stream p place key at kept in
     let label = not_put (label_fault number place taken (label_of key.name)) (cons_option (value_fault number place key) []) none in
     let behind = not_behind (label_fault number place taken (label_of key.name)) (cons_option (value_fault number place key) []) none in
@@ -254,5 +254,5 @@ not_bad stream place taken label e = by (is_bad label) e
 
 pub labels_are_sound : LabelsAreLabels → LabelsAreSound
 labels_are_sound law contents streams reader number stream place key p at kept =
-    law key.name (not_bad number place (taken_labels (type_of stream) (take place (keys_of contents stream)) (take place stream.kept)) (label_of key.name)
+    law key.name (not_bad number place (taken_labels (reserved_of contents stream) (take place (keys_of contents stream)) (take place stream.kept)) (label_of key.name)
     (good_label contents streams reader number stream p place key at kept))

@@ -1,10 +1,12 @@
 -- Two points of a window are never shown with the same labels.
-use Rattle.std.proofs.Common.{◌≡◌, ℕ, zero, suc, ◌+◌, ◌<◌, ◌≤◌, Bool, true, false, cond, ◌||◌, List, [], ◌∷◌, ◌++◌, length, map, take, Option, Some, None, refl, sym, ap, subst, ◌∙◌, arith, codes}
+use Rattle.std.proofs.Common.{◌≡◌, ℕ, zero, suc, ◌<◌, ◌≤◌, Bool, true, false, cond, ◌||◌, List, [], ◌∷◌, ◌++◌, length, map, take, Option, Some, None, refl, sym, ap, subst, ◌∙◌, arith, codes}
 use Rattle.std.specs.Prelude.{count_by, slice_get}
-use Rattle.std.specs.List.{list_any}
+use Rattle.std.specs.List.{flat_map, list_any}
+use Rattle.std.specs.Option.{option_map_or}
 use Rattle.std.specs.Str.{bytes_eq}
 use Rattle.std.proofs.lemmas.List.{append_cancel_right}
 use Rattle.std.proofs.lemmas.List.Elements.{filter-append}
+use Rattle.std.proofs.lemmas.List.Folds.{list_any-append}
 use Rattle.std.proofs.lemmas.List.Sums.{sum_by-cons}
 use Rattle.std.proofs.lemmas.Option.{get_or_from_slice_get, slice_get_within}
 use Rattle.std.proofs.lemmas.Slice.Eq.{bytes_eq-Decides}
@@ -21,20 +23,21 @@ use Rattle.metric_lines.specs.Keys.{attributes_of}
 use Rattle.metric_family.specs.declared.metric_type.MetricType.{MetricType}
 use Rattle.metric_family.specs.declared.metric_type.MetricType.TheVariants.{Counter, Gauge, Histogram}
 use Rattle.metric_family.specs.Families.{type_of}
-use Rattle.metric_family.specs.Labels.{Label, attribute_label, point_labels, scope_labels, scope_names, shown}
+use Rattle.metric_family.specs.Labels.{Label, attribute_label, point_labels, scope_labels, shown}
 use Rattle.metric_family.specs.Words.{is_among, is_some}
-use Rattle.metric_exposure.specs.Exposures.{keys_of}
-use Rattle.metric_exposure.specs.KeyFaults.{own_labels}
+use Rattle.metric_exposure.specs.Exposures.{keys_of, meter_of, reserved_of}
+use Rattle.metric_exposure.specs.KeyFaults.{reserved_labels, scope_taken, type_labels}
+use Rattle.metric_exposure.specs.Renames.{merged_labels, server_labels}
 use Rattle.metric_exposure.specs.Laws.{AreFull, Passes, PointsAreApart, SeriesAreApart, shown_of}
 use Rattle.metric_exposure.proofs.Passing.{key_passes}
 use Rattle.metric_exposure.proofs.Series.{fresh, shown_keys, tells_of}
 
 -- an entry that passes
-record Found (test : Entry → Bool) (entries : List Entry) : Type 0 where
-  place : ℕ
-  entry : Entry
-  at : slice_get entries place ≡ Some entry
-  is : test entry ≡ true
+pub record Found (test : Entry → Bool) (entries : List Entry) : Type 0 where
+  pub place : ℕ
+  pub entry : Entry
+  pub at : slice_get entries place ≡ Some entry
+  pub is : test entry ≡ true
 
 found : (test : Entry → Bool) (entries : List Entry) → list_any test entries ≡ true → Found test entries
 found test [] e = absurd cc
@@ -111,17 +114,20 @@ twice test (x ∷ ps) (suc i) (suc j) p q less at also passes too =
     omega (arith, sum_by-cons (λ (y : Point). cond (test y) 1 0) x ps, twice test ps i j p q (omega arith) at also passes too)
 
 -- the mark of the overflow series is taken
-or_true : (b : Bool) → (b || true) ≡ true
-or_true true = refl
-or_true false = refl
+mark_first : (type : MetricType) → is_among (type_labels type) (codes "otel_metric_overflow") ≡ true
+mark_first Counter = refl
+mark_first Gauge = refl
+mark_first Histogram = refl
 
-mark_taken : (type : MetricType) → is_among (own_labels type) (codes "otel_metric_overflow") ≡ true
-mark_taken Counter = ap (λ b. b || is_among scope_names (codes "otel_metric_overflow")) ((bytes_eq-Decides (codes "otel_metric_overflow") (codes "otel_metric_overflow")).1 refl)
-mark_taken Gauge = ap (λ b. b || is_among scope_names (codes "otel_metric_overflow")) ((bytes_eq-Decides (codes "otel_metric_overflow") (codes "otel_metric_overflow")).1 refl)
-mark_taken Histogram =
-    ap (λ b. bytes_eq (codes "otel_metric_overflow") (codes "le") || (b || is_among scope_names (codes "otel_metric_overflow")))
-    ((bytes_eq-Decides (codes "otel_metric_overflow") (codes "otel_metric_overflow")).1 refl)
-    ∙ or_true (bytes_eq (codes "otel_metric_overflow") (codes "le"))
+pub mark_taken : (contents : Contents) (stream : Stream) → is_among (reserved_of contents stream) (codes "otel_metric_overflow") ≡ true
+unfolding reserved_of reserved_labels
+mark_taken contents stream =
+    let mark : List ℕ = codes "otel_metric_overflow" in
+    let type = type_labels (type_of stream) in
+    let scope = option_map_or scope_taken (meter_of contents stream) [] in
+    let merged = flat_map (merged_labels (keys_of contents stream) stream.kept) server_labels in
+    list_any-append (bytes_eq mark) (type ++ scope) merged
+    ∙ ap (λ b. b || is_among merged mark) (list_any-append (bytes_eq mark) type scope ∙ ap (λ b. b || is_among scope mark) (mark_first (type_of stream)))
 
 module _ (contents : Contents) (streams : List Stream) (reader number : ℕ) (stream : Stream) (p : Passes contents streams reader number stream) (meter : Meter) where
   abbrev labels_of : Option (List ℕ) → List Label
@@ -136,8 +142,8 @@ module _ (contents : Contents) (streams : List Stream) (reader number : ℕ) (st
       let one = filter-append (λ (label : Label). is_some label.1) (map attribute_label (attributes_of keys stream.kept set)) (scope_labels meter) in
       let two = filter-append (λ (label : Label). is_some label.1) (told ∷ []) (scope_labels meter) in
       let keyed = append_cancel_right (shown_keys keys stream.kept set) (told ∷ []) (shown (scope_labels meter)) (sym one ∙ e ∙ two) in
-      fresh (own_labels (type_of stream)) (codes "otel_metric_overflow") keys stream.kept set told []
-      (tells_of (own_labels (type_of stream)) keys stream.kept (key_passes contents streams reader number stream p)) (mark_taken (type_of stream)) keyed refl
+      fresh (reserved_of contents stream) (codes "otel_metric_overflow") keys stream.kept set told []
+      (tells_of (reserved_of contents stream) keys stream.kept (key_passes contents streams reader number stream p)) (mark_taken contents stream) keyed refl
 
   same_set : SeriesAreApart → length stream.kept ≡ length (keys_of contents stream) → (window : List Entry) → AreFull contents stream window → (a b : Option (List ℕ))
       → Found (belongs stream window a) window → Found (belongs stream window b) window → labels_of a ≡ labels_of b → a ≡ b
@@ -153,12 +159,22 @@ module _ (contents : Contents) (streams : List Stream) (reader number : ℕ) (st
       ap (λ (set : List ℕ). labels_of (Some set)) one ∙ e ∙ sym (ap (λ (set : List ℕ). labels_of (Some set)) two) in
       ap Some (sym one ∙ apart contents streams reader number stream meter f.entry.set g.entry.set p long here.0 there.0 (here.1 ∙ sym there.1) alike ∙ two)
 
-pub points_are_apart : ((s : Stream) (window : List Entry) → CountsOnce s window) → SeriesAreApart → PointsAreApart
-points_are_apart once_each apart contents streams reader number stream meter window first later here there p long full less at also e =
+-- Points of which these sets are related are one point, where related sets are one.
+pub none_related : (stream : Stream) (window : List Entry) (Related : Option (List ℕ) → Option (List ℕ) → Type 0) → CountsOnce stream window
+    → ((a b : Option (List ℕ)) → Found (belongs stream window a) window → Found (belongs stream window b) window → Related a b → a ≡ b)
+    → (first later : ℕ) (here there : Point) → first < later → slice_get (points stream window) first ≡ Some here → slice_get (points stream window) later ≡ Some there
+    → Related here.set there.set → ⊥
+none_related stream window Related once_each one_set first later here there less at also related =
     let told = found (belongs stream window here.set) window (point_told stream window first here at) in
     let told_too = found (belongs stream window there.set) window (point_told stream window later there also) in
-    let one = same_set contents streams reader number stream p meter apart long window full here.set there.set told told_too e in
-    let counted = once_each stream window told.place told.entry told.at in
+    let one = one_set here.set there.set told told_too related in
+    let counted = once_each told.place told.entry told.at in
     let both = twice (λ (q : Point). belongs stream window q.set told.entry) (points stream window) first later here there less at also told.is
     (ap (λ (set : Option (List ℕ)). belongs stream window set told.entry) (sym one) ∙ told.is) in
     absurd (omega (arith, counted, both))
+
+pub points_are_apart : ((s : Stream) (window : List Entry) → CountsOnce s window) → SeriesAreApart → PointsAreApart
+points_are_apart once_each apart contents streams reader number stream meter window first later here there p long full less at also e =
+    let labels = labels_of contents streams reader number stream p meter in
+    none_related stream window (λ (a b : Option (List ℕ)). labels a ≡ labels b) (once_each stream window)
+    (same_set contents streams reader number stream p meter apart long window full) first later here there less at also e

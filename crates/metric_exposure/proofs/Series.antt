@@ -18,30 +18,30 @@ use Rattle.metric_contents.specs.PlaceLaws.{or_else, position_from-push}
 use Rattle.metric_contents.specs.Places.{has_repeat, place, repeats_after, same_value}
 use Rattle.metric_facts.specs.Facts.{is_entry, is_full_set, key_facts}
 use Rattle.metric_lines.specs.Keys.{attributes_of, kept_names, value_at}
-use Rattle.metric_family.specs.Families.{type_of}
 use Rattle.metric_family.specs.Labels.{Label, attribute_label, label_of, point_labels, scope_labels, shown}
 use Rattle.metric_family.specs.Words.{is_among, is_some}
-use Rattle.metric_exposure.specs.Exposures.{keys_of}
-use Rattle.metric_exposure.specs.KeyFaults.{are_confused, is_empty_text, own_labels, text_value, texts_of}
+use Rattle.metric_exposure.specs.Exposures.{keys_of, reserved_of}
+use Rattle.metric_exposure.specs.KeyFaults.{are_confused}
+use Rattle.metric_exposure.specs.KeyTexts.{is_empty_text, text_value, texts_of}
 use Rattle.metric_exposure.specs.Laws.{SeriesAreApart}
 use Rattle.metric_exposure.proofs.Passing.{key_passes}
 
-suc_is : (n : ℕ) → (suc n == 0) ≡ false
+pub suc_is : (n : ℕ) → (suc n == 0) ≡ false
 suc_is n = grind (arith, nat_tests)
 
 -- what is shown of a key
-abbrev item_by : Key → Option AttrValue → Option Label
+abbrev pub item_by : Key → Option AttrValue → Option Label
 item_by key None = None
 item_by key (Some value) = cond (is_some (value_text value)) (Some (label_of key.name, value_text value)) None
 
-abbrev item : Key → ℕ → Option Label
+abbrev pub item : Key → ℕ → Option Label
 item key entry = item_by key (value_at key.values entry)
 
 -- what is shown of the keys
 abbrev pub shown_keys : List Key → List Bool → List ℕ → List Label
 shown_keys keys kept set = shown (map attribute_label (attributes_of keys kept set))
 
-shown_kept : (key : Key) (keys : List Key) (kept : List Bool) (entry : ℕ) (set : List ℕ)
+pub shown_kept : (key : Key) (keys : List Key) (kept : List Bool) (entry : ℕ) (set : List ℕ)
     → shown_keys (key ∷ keys) (true ∷ kept) (entry ∷ set) ≡ cons_option (item key entry) (shown_keys keys kept set)
 shown_kept key keys kept entry set = by (value_at key.values entry)
   where
@@ -111,7 +111,7 @@ not_last before value w e = by (place before w) (same_value w value) (sym (posit
     by None true e = absurd cc
     by None false e = refl
 
-or_first : (a b : Bool) → (a || b) ≡ false → a ≡ false
+pub or_first : (a b : Bool) → (a || b) ≡ false → a ≡ false
 or_first true b e = e
 or_first false b e = refl
 
@@ -150,18 +150,18 @@ one_place before (value ∷ values) (suc i) zero text e at also =
 one_place before (value ∷ values) (suc i) (suc j) text e at also =
     ap suc (one_place (before ++ value ∷ []) values i j text (or_second (is_there (place before value)) (repeats_after (before ++ value ∷ []) values) e) at also)
 
-get_mapped : (values : List AttrValue) (i : ℕ) (value : AttrValue) → slice_get values i ≡ Some value → slice_get (map text_value values) i ≡ Some (text_value value)
+pub get_mapped : (values : List AttrValue) (i : ℕ) (value : AttrValue) → slice_get values i ≡ Some value → slice_get (map text_value values) i ≡ Some (text_value value)
 get_mapped [] i value at = absurd cc
 get_mapped (x ∷ values) zero value at = let same : x ≡ value = cc in ap (λ (v : AttrValue). Some (text_value v)) same
 get_mapped (x ∷ values) (suc i) value at = get_mapped values i value at
 
 -- the value that an entry names
-record Named (values : List AttrValue) (entry : ℕ) (value : AttrValue) : Type 0 where
-  more : ℕ
-  is : entry ≡ suc more
-  at : slice_get values more ≡ Some value
+pub record Named (values : List AttrValue) (entry : ℕ) (value : AttrValue) : Type 0 where
+  pub more : ℕ
+  pub is : entry ≡ suc more
+  pub at : slice_get values more ≡ Some value
 
-named : (values : List AttrValue) (entry : ℕ) (value : AttrValue) → value_at values entry ≡ Some value → Named values entry value
+pub named : (values : List AttrValue) (entry : ℕ) (value : AttrValue) → value_at values entry ≡ Some value → Named values entry value
 named values zero value e = absurd cc
 named values (suc n) value e =
     let less : suc n - 1 ≡ n = omega arith in
@@ -200,12 +200,12 @@ get_below (x ∷ values) zero less e = cc
 get_below (x ∷ values) (suc n) less e = get_below values n (omega arith) e
 
 -- what is not shown of a key that an entry is of
-record Unshown (key : Key) (entry : ℕ) : Type 0 where
-  value : AttrValue
-  at : value_at key.values entry ≡ Some value
-  empty : value_text value ≡ []
+pub record Unshown (key : Key) (entry : ℕ) : Type 0 where
+  pub value : AttrValue
+  pub at : value_at key.values entry ≡ Some value
+  pub empty : value_text value ≡ []
 
-unshown : (key : Key) (n : ℕ) → is_entry (key_facts key) (suc n) ≡ true → item key (suc n) ≡ None → Unshown key (suc n)
+pub unshown : (key : Key) (n : ℕ) → is_entry (key_facts key) (suc n) ≡ true → item key (suc n) ≡ None → Unshown key (suc n)
 unshown key n valid e = by (value_at key.values (suc n)) refl e
   where
     hidden : (value : AttrValue) (b : Bool) → is_some (value_text value) ≡ b → value_at key.values (suc n) ≡ Some value → cond {A = Option Label} b (Some (label_of key.name, value_text value)) None ≡ None → Unshown key (suc n)
@@ -233,7 +233,7 @@ not_absent key f clear optional u =
     let wrong : true ≡ false = sym (ap (λ b. b && list_any is_empty_text (texts_of key)) optional ∙ some) ∙ none in
     cc
 
-same_hidden : (key : Key) (e f : ℕ) → are_confused key ≡ false → is_entry (key_facts key) e ≡ true → is_entry (key_facts key) f ≡ true → item key e ≡ None → item key f ≡ None → e ≡ f
+pub same_hidden : (key : Key) (e f : ℕ) → are_confused key ≡ false → is_entry (key_facts key) e ≡ true → is_entry (key_facts key) f ≡ true → item key e ≡ None → item key f ≡ None → e ≡ f
 same_hidden key zero zero clear p q g h = refl
 same_hidden key zero (suc f) clear p q g h = absurd (not_absent key (suc f) clear p (unshown key f q h))
 same_hidden key (suc e) zero clear p q g h = absurd (not_absent key (suc e) clear q (unshown key e p g))
@@ -259,14 +259,14 @@ shows_of key entry x e = by (value_at key.values entry) refl e
     by None at e = absurd cc
     by (Some value) at e = told value (is_some (value_text value)) at e
 
-same_shown : (key : Key) (e f : ℕ) (x y : Label) → are_confused key ≡ false → item key e ≡ Some x → item key f ≡ Some y → x ≡ y → e ≡ f
+pub same_shown : (key : Key) (e f : ℕ) (x y : Label) → are_confused key ≡ false → item key e ≡ Some x → item key f ≡ Some y → x ≡ y → e ≡ f
 same_shown key e f x y clear g h same =
     let p = shows_of key e x g in
     let q = shows_of key f y h in
     one_text key e f p.value q.value clear p.at q.at (p.is ∙ ap (λ (z : Label). z.1) same ∙ sym q.is)
 
 -- set keys that have no keys are all zeros
-zeros : (s t : List ℕ) → list_all (λ entry. entry == 0) s ≡ true → list_all (λ entry. entry == 0) t ≡ true → length s ≡ length t → s ≡ t
+pub zeros : (s t : List ℕ) → list_all (λ entry. entry == 0) s ≡ true → list_all (λ entry. entry == 0) t ≡ true → length s ≡ length t → s ≡ t
 zeros [] [] p q long = refl
 zeros [] (f ∷ t) p q long = absurd (omega arith)
 zeros (e ∷ s) [] p q long = absurd (omega arith)
@@ -278,15 +278,15 @@ zeros (zero ∷ s) (suc f ∷ t) p q long =
     let wrong : false ≡ true = sym (ap (λ b. b && list_all (λ entry. entry == 0) t) (suc_is f)) ∙ q in
     absurd cc
 
-and_first : (a b : Bool) → (a && b) ≡ true → a ≡ true
+pub and_first : (a b : Bool) → (a && b) ≡ true → a ≡ true
 and_first true b e = refl
 and_first false b e = e
 
-and_second : (a b : Bool) → (a && b) ≡ true → b ≡ true
+pub and_second : (a b : Bool) → (a && b) ≡ true → b ≡ true
 and_second true b e = e
 and_second false b e = absurd cc
 
-among_last : (taken : List (List ℕ)) (label : List ℕ) → is_among (taken ++ label ∷ []) label ≡ true
+pub among_last : (taken : List (List ℕ)) (label : List ℕ) → is_among (taken ++ label ∷ []) label ≡ true
 among_last [] label = ap (λ b. b || false) ((bytes_eq-Decides label label).1 refl)
 among_last (x ∷ taken) label = ap (λ b. bytes_eq label x || b) (among_last taken label) ∙ or_true (bytes_eq label x)
   where
@@ -356,4 +356,4 @@ series_are_apart contents streams reader number stream meter set other p same fu
     let one = filter-append (λ (label : Label). is_some label.1) (map attribute_label (attributes_of keys kept (restricted kept set))) (scope_labels meter) in
     let two = filter-append (λ (label : Label). is_some label.1) (map attribute_label (attributes_of keys kept (restricted kept other))) (scope_labels meter) in
     let keyed = append_cancel_right (shown_keys keys kept (restricted kept set)) (shown_keys keys kept (restricted kept other)) (shown (scope_labels meter)) (sym one ∙ e ∙ two) in
-    apart (own_labels (type_of stream)) keys kept set other (tells_of (own_labels (type_of stream)) keys kept (key_passes contents streams reader number stream p)) same full also long keyed
+    apart (reserved_of contents stream) keys kept set other (tells_of (reserved_of contents stream) keys kept (key_passes contents streams reader number stream p)) same full also long keyed

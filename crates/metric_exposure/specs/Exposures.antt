@@ -1,11 +1,13 @@
 -- What keeps a reader's streams from a page of Prometheus, and from requests of OTLP.
 use Rattle.std.specs.Prelude.{ℕ, ℤ, ◌^◌, Bool, ◌==◌, List, [], ◌++◌, Option, Result, Ok, Err}
-use Rattle.std.specs.Prelude.{◌∷◌, if◌then◌else◌, length, nat_abs, nat_lt, slice_get, take}
+use Rattle.std.specs.Prelude.{◌∷◌, if◌then◌else◌, length, nat_abs, nat_lt, option_and_then}
+use Rattle.std.specs.Prelude.{slice_get, take}
 use Rattle.std.specs.List.{flat_map, list_any, range_with_len}
 use Rattle.std.specs.Option.{option_map_or, option_to_list}
 use Rattle.metric_contents.specs.declared.contents.Contents.{Contents}
 use Rattle.metric_contents.specs.declared.contents.Instrument.{Instrument}
 use Rattle.metric_contents.specs.declared.contents.Key.{Key}
+use Rattle.metric_contents.specs.declared.contents.Meter.{Meter}
 use Rattle.metric_views.specs.declared.stream.Stream.{Stream}
 use Rattle.metric_views.specs.declared.stream.StreamAggregation.{StreamAggregation}
 use Rattle.metric_views.specs.declared.stream.StreamAggregation.TheVariants.{Sum, LastValue}
@@ -17,7 +19,7 @@ use Rattle.metric_exposure.specs.declared.fault.ExposureFault.TheVariants as fau
 use Rattle.metric_exposure.specs.declared.outlet.Outlet.{Outlet}
 use Rattle.metric_exposure.specs.declared.outlet.Outlet.TheVariants.{Prometheus, Otlp}
 use Rattle.metric_exposure.specs.Collisions.{collision_by, first_claim}
-use Rattle.metric_exposure.specs.KeyFaults.{all_key_faults}
+use Rattle.metric_exposure.specs.KeyFaults.{all_key_faults, reserved_labels}
 
 -- the fault, where the test holds
 abbrev pub fault_if : Bool → ExposureFault → List ExposureFault
@@ -49,13 +51,25 @@ keys_of contents stream =
     option_map_or (λ (instrument : Instrument). instrument.keys)
     (slice_get contents.instruments stream.instrument) []
 
+-- the meter of a stream's instrument
+abbrev pub meter_of : Contents → Stream → Option Meter
+meter_of contents stream =
+    option_and_then (λ (instrument : Instrument). slice_get contents.meters instrument.meter)
+    (slice_get contents.instruments stream.instrument)
+
+-- the labels that no key of a stream may have
+unfoldable pub reserved_of : Contents → Stream → List (List ℕ)
+reserved_of contents stream =
+    reserved_labels (type_of stream) (meter_of contents stream) (keys_of contents stream)
+    stream.kept
+
 -- the faults of a stream for pages, where these streams claim each name first
 unfoldable pub page_faults : Contents → (List ℕ → Option ℕ) → ℕ → Stream → List ExposureFault
 page_faults contents first number stream =
     fault_if (is_delta_temporality stream.temporality) (faults.Delta number)
     ++ (boundary_faults number stream
     ++ (name_faults first number stream
-    ++ all_key_faults number (type_of stream) (keys_of contents stream) stream.kept))
+    ++ all_key_faults number (reserved_of contents stream) (keys_of contents stream) stream.kept))
 
 -- the same of a way out, where these streams stand before it
 abbrev pub stream_faults : Outlet → Contents → ℕ → List Stream → ℕ → Stream → List ExposureFault

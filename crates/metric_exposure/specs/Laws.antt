@@ -1,7 +1,10 @@
 -- What holds of the streams of a reader that pass the check for pages.
-use Rattle.std.specs.Prelude.{◌≡◌, ◌≢◌, ℕ, ◌+◌, ◌<◌, ◌≤◌, true, false, List, [], ◌∷◌, Some, length}
+use Rattle.std.specs.Prelude.{◌≡◌, ◌≢◌, ℕ, suc, ◌+◌, ◌<◌, ◌≤◌, Bool, true, false, ◌&&◌, List, []}
+use Rattle.std.specs.Prelude.{◌∷◌, Some, if◌then◌else◌, length}
 use Rattle.std.specs.Prelude.{map}
 use Rattle.std.specs.Prelude.{slice_get}
+use Rattle.std.specs.List.{list_all, range_with_len}
+use Rattle.std.specs.Str.{bytes_eq}
 use Rattle.metric_aggregate.specs.declared.point_value.PointValue.{PointValue}
 use Rattle.metric_aggregate.specs.declared.point_value.PointValue.TheVariants.{Sum, Last, Buckets}
 use Rattle.metric_contents.specs.declared.contents.Contents.{Contents}
@@ -16,13 +19,14 @@ use Rattle.metric_history.specs.Points.{points}
 use Rattle.metric_family.specs.Families.{claims_of, family}
 use Rattle.metric_family.specs.Grammar.{IsLabel, IsName}
 use Rattle.metric_family.specs.Labels.{Label, label_of, point_labels, shown}
-use Rattle.metric_family.specs.Words.{is_among}
+use Rattle.metric_family.specs.Words.{is_among, is_some}
 use Rattle.metric_exposure.specs.declared.outlet.Outlet.TheVariants.{Prometheus}
 use Rattle.metric_exposure.specs.Collisions.{is_of_target}
-use Rattle.metric_exposure.specs.Exposures.{exposure_faults, keys_of}
+use Rattle.metric_exposure.specs.Exposures.{exposure_faults, keys_of, meter_of}
+use Rattle.metric_exposure.specs.Renames.{exported, server_labels}
 
 -- # streams that pass (profile) [Passes, NamesAreSound, LabelsAreSound, FamiliesAreApart,
--- NoneClaimsTheTarget, SeriesAreApart, PointsAreApart]
+-- NoneClaimsTheTarget, SeriesAreApart, PointsAreApart, PointsStayApart]
 -- What holds of a reader's streams without a fault: sound names and labels, families and series
 -- that are apart.
 pub record Passes (contents : Contents) (streams : List Stream) (reader number : ℕ)
@@ -104,6 +108,48 @@ PointsAreApart =
     → first < later → slice_get (points stream window) first ≡ Some point
     → slice_get (points stream window) later ≡ Some other
     → shown_point contents stream meter point ≢ shown_point contents stream meter other
+
+-- the text that is shown under a label, empty where none is
+abbrev pub text_at : List Label → List ℕ → List ℕ
+text_at [] name = []
+text_at (label ∷ labels) name =
+    if bytes_eq label.0 name && is_some label.1 then label.1 else text_at labels name
+
+-- Of texts, of which each stands under a label with so many `exported_`: whether as many stand
+-- there as here, from one `exported_` on.
+abbrev pub are_shown : (ℕ → List ℕ) → ℕ → Bool
+are_shown texts many = list_all (λ n. is_some (texts (suc n))) (range_with_len 0 many)
+
+-- # what a server holds (Prometheus, scrape configuration, honor_labels) [held_by, AreOne]
+-- The text of a label that a server writes itself goes to the first label with one `exported_` or
+-- more that the series does not have; what it holds under the label with one more than so many.
+abbrev pub held_by : (ℕ → List ℕ) → ℕ → List ℕ
+held_by texts many =
+    if is_some (texts (suc many)) then texts (suc many)
+    else (if are_shown texts many then texts 0 else [])
+
+abbrev pub texts_of : List Label → List ℕ → ℕ → List ℕ
+texts_of labels own n = text_at labels (exported n own)
+
+-- A server holds the same of both.
+pub record AreOne (labels others : List Label) : Type 0 where
+  pub moved : (own : List ℕ) (many : ℕ) → is_among server_labels own ≡ true
+      → held_by (texts_of labels own) many ≡ held_by (texts_of others own) many
+  pub apart : (name : List ℕ)
+      → ((own : List ℕ) (n : ℕ) → is_among server_labels own ≡ true → exported n own ≢ name)
+      → text_at labels name ≡ text_at others name
+
+-- No two points of a window, the overflow point too, are one series of a server.
+abbrev pub PointsStayApart : Type 0
+PointsStayApart =
+    (contents : Contents) (streams : List Stream) (reader number : ℕ) (stream : Stream)
+    (meter : Meter) (window : List Entry) (first later : ℕ) (point other : Point)
+    → Passes contents streams reader number stream → meter_of contents stream ≡ Some meter
+    → length stream.kept ≡ length (keys_of contents stream) → AreFull contents stream window
+    → first < later → slice_get (points stream window) first ≡ Some point
+    → slice_get (points stream window) later ≡ Some other
+    → AreOne (shown_point contents stream meter point) (shown_point contents stream meter other)
+    → ⊥
 
 -- the sums of the first counts, of one more each time
 abbrev pub running : ℕ → List ℕ → List ℕ

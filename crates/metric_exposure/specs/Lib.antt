@@ -1,4 +1,6 @@
 pub mod Collisions
+pub mod KeyTexts
+pub mod Renames
 pub mod KeyFaults
 pub mod Exposures
 pub mod Faults

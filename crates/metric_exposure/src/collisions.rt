@@ -125,8 +125,8 @@ fn add_names(
     add_names(alloc, claims, number, family, others)
 }
 
-// Keeps a name, unless a stream claims it.
-fn add_name(claims: &mut Claims, name: String, number: usize) -> Result<(), AllocError>
+/// Keeps a name, unless a stream claims it.
+pub(crate) fn add_name(claims: &mut Claims, name: String, number: usize) -> Result<(), AllocError>
     ensures { OnOk result ((other : List ℕ) → get_by_text claims.new other
         ≡ or_else (get_by_text claims.old other)
         (if bytes_eq other (string_bytes name) then Some number else None)) }

@@ -39,7 +39,8 @@ pub enum ExposureFault {
         /// The key.
         key: usize,
     },
-    /// The key's label is that of a kept key before it, of the scope, `otel_metric_overflow`, or `le` in a histogram.
+    /// The key's label is that of a kept key before it, one of the scope that has a text, `otel_metric_overflow`, `le` in
+    /// a histogram, or one under which a server that renames `job` and `instance` would make two series one.
     LabelCollision {
         /// The stream.
         stream: usize,

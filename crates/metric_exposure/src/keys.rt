@@ -1,46 +1,92 @@
 //! Keys whose labels or whose values' texts do not tell them apart.
-ghost use Rattle.std.specs.Prelude.{◌≡◌, ◌++◌, ◌≤◌, false, map, IfOk, OnOk, length, slice_get};
+ghost use Rattle.std.specs.Prelude.{◌≡◌, ◌++◌, ◌∷◌, [], ◌≤◌, false, map, IfOk, OnOk, length, slice_get, if◌then◌else◌};
 ghost use Rattle.std.specs.List.{list_any};
-ghost use Rattle.std.specs.Option.{unwrap_or};
+ghost use Rattle.std.specs.Option.{option_map, unwrap_or};
 ghost use Rattle.metric_family.specs.Labels.{label_of};
 ghost use Rattle.metric_family.specs.Words.{is_among};
-ghost use Rattle.metric_exposure.specs.KeyFaults.{all_key_faults, are_confused, is_empty_text, key_faults, label_fault};
-ghost use Rattle.metric_exposure.specs.KeyFaults.{own_labels, text_value};
+ghost use Rattle.metric_exposure.specs.KeyFaults.{all_key_faults, are_confused, key_faults, label_fault, reserved_labels};
+ghost use Rattle.metric_exposure.specs.KeyFaults.{scope_taken};
+ghost use Rattle.metric_exposure.specs.KeyTexts.{is_empty_text, text_value};
 
 use crate::fault::ExposureFault;
+use crate::renames::add_merged;
 use metric_base::{Items, Text};
-use metric_contents::{Key, Values};
+use metric_contents::{Key, Meter, Values};
 use metric_family::{MetricType, is_bad_label, label_of, text_of};
 use metric_names::AttrValue;
 use std::alloc::{AllocError, Global};
 
-/// Puts the faults of the kept keys of a stream last, in declared order.
+/// The labels that no key of a stream may have: those that a line has beside its keys', and those under which a server
+/// would make two series one. Fails only when out of memory.
+#[tactic(auto, unfolding(crate::specs::KeyFaults::reserved_labels))]
+pub(crate) fn reserved_labels(
+    alloc: Global,
+    kind: MetricType,
+    meter: Option<&Meter>,
+    keys: &[Key],
+    kept: &[bool],
+) -> Result<Vec<Text>, AllocError>
+    ensures { IfOk result (λ labels. labels.items
+        ≡ reserved_labels kind (option_map (λ m. m.now) meter.entry) keys.now kept.now) }
+{
+    let mut labels = Vec::new(alloc);
+    push_if(alloc, &mut labels, kind == MetricType::Histogram, "le")?;
+    push_if(alloc, &mut labels, true, "otel_metric_overflow")?;
+    if let Some(meter) = meter {
+        add_scope(alloc, &mut labels, meter)?;
+    }
+    add_merged(alloc, &mut labels, keys, kept, "job")?;
+    add_merged(alloc, &mut labels, keys, kept, "instance")?;
+    Ok(labels)
+}
+
+// Puts the labels of a scope last: one whose text is empty stands in no line.
+fn add_scope(alloc: Global, labels: &mut Vec<Text>, meter: &Meter) -> Result<(), AllocError>
+    ensures { OnOk result (labels.new.items ≡ labels.old.items ++ scope_taken meter.now) }
+{
+    let has_name = !meter.name.as_str().is_empty();
+    let has_version = !meter.version.as_str().is_empty();
+    let has_schema_url = !meter.schema_url.as_str().is_empty();
+    push_if(alloc, labels, has_name, "otel_scope_name")?;
+    push_if(alloc, labels, has_version, "otel_scope_version")?;
+    push_if(alloc, labels, has_schema_url, "otel_scope_schema_url")?;
+    Ok(())
+}
+
+/// Puts a label last, where this holds.
+pub(crate) fn push_if(
+    alloc: Global,
+    labels: &mut Vec<Text>,
+    test: bool,
+    label: &str,
+) -> Result<(), AllocError>
+    ensures { OnOk result (labels.new.items
+        ≡ labels.old.items ++ (if test then label.now ∷ [] else [])) }
+{
+    if !test {
+        return Ok(());
+    }
+    labels.push(Text::new(alloc, label)?)?;
+    Ok(())
+}
+
+/// Puts the faults of the kept keys of a stream last, in declared order. None of them may have these labels.
 pub(crate) fn add_key_faults(
     alloc: Global,
     faults: &mut Vec<ExposureFault>,
     number: usize,
-    kind: MetricType,
+    mut labels: Vec<Text>,
     keys: &[Key],
     kept: &[bool],
 ) -> Result<(), AllocError>
     ensures { OnOk result (faults.new.items
-        ≡ faults.old.items ++ all_key_faults number kind keys.now kept.now) }
+        ≡ faults.old.items ++ all_key_faults number labels.items keys.now kept.now) }
 {
-    let mut labels = Vec::new(alloc);
     for (place, key) in keys.iter().enumerate() {
         if is_kept(kept, place) {
             let label = label_of(alloc, key.name.as_str())?;
-            let before = labels.as_slice();
-            add_faults_of(
-                alloc,
-                faults,
-                number,
-                place,
-                kind,
-                before,
-                label.as_str(),
-                key,
-            )?;
+            let taken = labels.as_slice();
+            add_faults_of(alloc, faults, number, place, taken, label.as_str(), key)?;
             labels.push(label)?;
         }
     }
@@ -53,22 +99,21 @@ fn is_kept(kept: &[bool], place: usize) -> bool
     kept.get(place).copied().unwrap_or(false)
 }
 
-// Puts the faults of a key with its label last, where these are the labels of the kept keys before it.
+// Puts the faults of a key with its label last, where these labels are taken.
 fn add_faults_of(
     alloc: Global,
     faults: &mut Vec<ExposureFault>,
     number: usize,
     place: usize,
-    kind: MetricType,
-    before: &[Text],
+    taken: &[Text],
     label: &str,
     key: &Key,
 ) -> Result<(), AllocError>
     requires { label.now ≡ label_of key.now.name }
     ensures { OnOk result (faults.new.items ≡ faults.old.items
-        ++ key_faults number place (own_labels kind ++ before.now) key.now) }
+        ++ key_faults number place taken.now key.now) }
 {
-    if let Some(fault) = label_fault(number, place, kind, before, label) {
+    if let Some(fault) = label_fault(number, place, taken, label) {
         faults.push(fault)?;
     }
     if are_confused(alloc, key)? {
@@ -80,14 +125,8 @@ fn add_faults_of(
     Ok(())
 }
 
-fn label_fault(
-    number: usize,
-    place: usize,
-    kind: MetricType,
-    before: &[Text],
-    label: &str,
-) -> Option<ExposureFault>
-    ensures { result ≡ label_fault number place (own_labels kind ++ before.now) label.now }
+fn label_fault(number: usize, place: usize, taken: &[Text], label: &str) -> Option<ExposureFault>
+    ensures { result ≡ label_fault number place taken.now label.now }
 {
     if is_bad_label(label) {
         return Some(ExposureFault::BadLabel {
@@ -95,7 +134,7 @@ fn label_fault(
             key: place,
         });
     }
-    if is_taken(kind, before, label) {
+    if has_label(taken, label) {
         return Some(ExposureFault::LabelCollision {
             stream: number,
             key: place,
@@ -104,33 +143,10 @@ fn label_fault(
     None
 }
 
-// Whether a label is one of a type's own, or of these.
-fn is_taken(kind: MetricType, before: &[Text], label: &str) -> bool
-    ensures { result ≡ is_among (own_labels kind ++ before.now) label.now }
+fn has_label(taken: &[Text], label: &str) -> bool
+    ensures { result ≡ is_among taken.now label.now }
 {
-    if is_own_label(kind, label) {
-        return true;
-    }
-    has_label(before, label)
-}
-
-fn has_label(before: &[Text], label: &str) -> bool
-    ensures { result ≡ is_among before.now label.now }
-{
-    before.iter().any(|other| label == other.as_str())
-}
-
-// Whether a series of a type may have the label beside those of its keys.
-fn is_own_label(kind: MetricType, label: &str) -> bool
-    ensures { result ≡ is_among (own_labels kind) label.now }
-{
-    if kind == MetricType::Histogram && label == "le" {
-        return true;
-    }
-    matches!(
-        label,
-        "otel_metric_overflow" | "otel_scope_name" | "otel_scope_version" | "otel_scope_schema_url"
-    )
+    taken.iter().any(|other| label == other.as_str())
 }
 
 // Whether two values of a key have one text, or the key may be absent and a value has the empty text.
@@ -146,8 +162,8 @@ fn are_confused(alloc: Global, key: &Key) -> Result<bool, AllocError>
     Ok(distinct.is_none())
 }
 
-// The texts of some values, as values.
-fn texts_of(alloc: Global, values: &[AttrValue]) -> Result<Items<AttrValue>, AllocError>
+/// The texts of some values, as values.
+pub(crate) fn texts_of(alloc: Global, values: &[AttrValue]) -> Result<Items<AttrValue>, AllocError>
     requires { length values.now ≤ 1000 }
     ensures texts { IfOk result (λ texts. texts ≡ map text_value values.now) }
     ensures few { IfOk result (λ texts. length texts ≤ 1000) }
@@ -159,7 +175,7 @@ fn texts_of(alloc: Global, values: &[AttrValue]) -> Result<Items<AttrValue>, All
     Ok(texts)
 }
 
-fn has_empty_text(texts: &[AttrValue]) -> bool
+pub(crate) fn has_empty_text(texts: &[AttrValue]) -> bool
     ensures { result ≡ list_any is_empty_text texts.now }
 {
     texts.iter().any(|text| matches!(text, AttrValue::Text(text) if text.as_str().is_empty()))

@@ -1,6 +1,6 @@
 //! What holds of streams that pass the check, as laws of the definitions.
-ghost use Rattle.metric_exposure.specs.Laws.{FamiliesAreApart, LabelsAreSound, NamesAreSound, NoneClaimsTheTarget, PointsAreApart, ReportedBucketsRise};
-ghost use Rattle.metric_exposure.specs.Laws.{SeriesAreApart};
+ghost use Rattle.metric_exposure.specs.Laws.{FamiliesAreApart, LabelsAreSound, NamesAreSound, NoneClaimsTheTarget, PointsAreApart, PointsStayApart};
+ghost use Rattle.metric_exposure.specs.Laws.{ReportedBucketsRise, SeriesAreApart};
 
 use metric_family::{families_are_names, labels_are_labels};
 use metric_history::laws::recordings_are_counted_once;
@@ -35,6 +35,15 @@ pub fn points_are_apart()
 {
     recordings_are_counted_once();
     series_are_apart();
+}
+
+/// Where a reader's streams pass for pages, no two points of a window of recordings are one series at a server, which
+/// writes `job` and `instance` itself and moves what a point has under these to `exported_job` and the like: the first of
+/// these that the point does not have. Does nothing.
+pub fn points_stay_apart()
+    ensures { PointsStayApart }
+{
+    recordings_are_counted_once();
 }
 
 /// The buckets of each point that is reported of recordings rise up to the point's count. Does nothing.

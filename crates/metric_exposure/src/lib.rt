@@ -8,12 +8,13 @@ mod fault;
 mod keys;
 mod laws;
 mod outlet;
+mod renames;
 mod streams;
 
 pub use exposures::{expose, expose_to_otlp, exposure_faults};
 pub use fault::ExposureFault;
 pub use laws::{
     buckets_rise_to_the_count, families_are_apart, names_and_labels_are_sound, points_are_apart,
-    series_are_apart,
+    points_stay_apart, series_are_apart,
 };
 pub use outlet::Outlet;

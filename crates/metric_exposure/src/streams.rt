@@ -1,20 +1,22 @@
 //! The faults of streams.
-ghost use Rattle.std.specs.Prelude.{◌≡◌, ◌++◌, ◌==◌, ◌&&◌, [], ℕ, List, Some, None, OnOk, if◌then◌else◌};
+ghost use Rattle.std.specs.Prelude.{◌≡◌, ◌++◌, ◌==◌, ◌&&◌, [], ℕ, List, Some, None, IfOk, OnOk, if◌then◌else◌};
 ghost use Rattle.std.specs.BTreeMap.{get_by_text};
 ghost use Rattle.std.specs.List.{list_any};
+ghost use Rattle.std.specs.Option.{option_map};
 ghost use Rattle.metric_contents.specs.PlaceLaws.{or_else};
 ghost use Rattle.metric_family.specs.Families.{claims_of};
 ghost use Rattle.metric_family.specs.Words.{is_among};
 ghost use Rattle.metric_exposure.specs.declared.outlet.Outlet.TheVariants.{Otlp, Prometheus};
 ghost use Rattle.metric_exposure.specs.Collisions.{is_claimed};
-ghost use Rattle.metric_exposure.specs.Exposures.{boundaries_of, boundary_faults, exposure_faults, first_of, is_inexact, keys_of};
-ghost use Rattle.metric_exposure.specs.Exposures.{name_faults, page_faults};
+ghost use Rattle.metric_exposure.specs.Exposures.{boundaries_of, boundary_faults, exposure_faults, first_of, is_inexact, keys_of, meter_of};
+ghost use Rattle.metric_exposure.specs.Exposures.{name_faults, page_faults, reserved_of};
 
 use crate::collisions::{Claims, add_claims, collision_of};
 use crate::fault::ExposureFault;
-use crate::keys::add_key_faults;
+use crate::keys::{add_key_faults, reserved_labels};
+use metric_base::Text;
 use metric_catalogue::Catalogue;
-use metric_contents::Key;
+use metric_contents::{Key, Meter};
 use metric_family::{MetricType, family_of};
 use metric_views::{Stream, StreamAggregation, Temporality};
 use std::alloc::{AllocError, Global};
@@ -94,16 +96,39 @@ fn add_stream_faults(
     }
     add_boundary_fault(faults, number, stream)?;
     add_name_faults(alloc, faults, claims, number, stream)?;
-    let kind = MetricType::of(stream);
+    let labels = reserved_of(alloc, catalogue, stream)?;
     let keys = keys_of(catalogue, stream);
     add_key_faults(
         alloc,
         faults,
         number,
-        kind,
+        labels,
         keys,
         stream.kept.get().as_slice(),
     )
+}
+
+// The labels that no key of a stream may have.
+#[tactic(auto, unfolding(crate::specs::Exposures::reserved_of))]
+fn reserved_of(
+    alloc: Global,
+    catalogue: &Catalogue,
+    stream: &Stream,
+) -> Result<Vec<Text>, AllocError>
+    ensures { IfOk result (λ labels. labels.items ≡ reserved_of catalogue.now stream.now) }
+{
+    let kind = MetricType::of(stream);
+    let meter = meter_of(catalogue, stream);
+    let keys = keys_of(catalogue, stream);
+    reserved_labels(alloc, kind, meter, keys, stream.kept.get().as_slice())
+}
+
+// The meter of a stream's instrument.
+fn meter_of<'a>(catalogue: &'a Catalogue, stream: &Stream) -> Option<&'a Meter>
+    ensures { option_map (λ m. m.now) result ≡ meter_of catalogue.now stream.now }
+{
+    let instrument = catalogue.instruments().get(stream.instrument as usize)?;
+    catalogue.meters().get(instrument.meter as usize)
 }
 
 // The keys of a stream's instrument.

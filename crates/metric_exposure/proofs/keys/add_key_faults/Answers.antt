@@ -2,6 +2,7 @@
 use Rattle.std.proofs.Common.{◌≡◌, ℕ, ◌<◌, ◌++◌, length, Some, sym, ap, refl, ◌∙◌, arith}
 use Rattle.std.specs.Prelude.{slice_get}
 use Rattle.std.specs.List.{flat_map, range_with_len}
+use Rattle.std.proofs.lemmas.List.{append-nil}
 use Rattle.std.proofs.lemmas.Option.{slice_get_read}
 use Rattle.metric_exposure.specs.KeyFaults.{all_key_faults, place_faults}
 use Rattle.metric_family.specs.Labels.{label_of}
@@ -9,10 +10,13 @@ use Rattle.metric_exposure.proofs.KeyTurns.{faults_more, faults_same, labels_mor
 use Rattle.metric_exposure.proofs.keys.add_key_faults.Goals as goal
 use Rattle.metric_exposure.proofs.keys.add_key_faults.Goals.{then-is_kept+in_ok-label+in_ok-add_faults_of+in_ok-push, else-is_kept}
 
+pub loop-place-init : goal.loop-place-init
+loop-place-init c = record { labels = sym (append-nil c.args.labels.items); faults = sym (append-nil c.args.faults.now.items) }
+
 pub loop-place-preserved : goal.loop-place-preserved
 loop-place-preserved c =
     let number = c.args.number in
-    let kind = c.args.kind in
+    let own = c.args.labels.items in
     let keys = c.args.keys.now in
     let kept = c.args.kept.now in
     let n = c.loop-place.place in
@@ -28,17 +32,17 @@ loop-place-preserved c =
           let is = sym c.is_kept.ensures ∙ w.if-is_kept.true in
           record {
             labels =
-                labels_more number kind keys kept n key at labels c.if-is_kept.labels.items w.in_ok-label.label is before.labels
+                labels_more number own keys kept n key at labels c.if-is_kept.labels.items w.in_ok-label.label is before.labels
                 (w.in_ok-label.ensures ∙ ap label_of w.as_str.ensures) (ap (λ v. v.items) w.labels-is ∙ w.in_ok-push.ensures.items);
             faults =
-                faults_more number kind keys kept n key at labels old now c.if-is_kept.faults.items is before.labels before.faults
-                (ap (λ v. v.items) w.faults-is ∙ (rw w.as_slice-before.ensures.value at w.in_ok-add_faults_of.ensures));
+                faults_more number own keys kept n key at labels old now c.if-is_kept.faults.items is before.labels before.faults
+                (ap (λ v. v.items) w.faults-is ∙ (rw w.as_slice-taken.ensures.value at w.in_ok-add_faults_of.ensures));
           }
       | else-is_kept w ↦
           let is = sym c.is_kept.ensures ∙ w.if-is_kept.false in
           record {
-            labels = ap (λ v. v.items) w.labels-is ∙ labels_same number kind keys kept n key at labels is before.labels;
-            faults = ap (λ v. v.items) w.faults-is ∙ faults_same number kind keys kept n key at old now is before.faults;
+            labels = ap (λ v. v.items) w.labels-is ∙ labels_same number own keys kept n key at labels is before.labels;
+            faults = ap (λ v. v.items) w.faults-is ∙ faults_same number own keys kept n key at old now is before.faults;
           }
     ]
 
@@ -47,4 +51,4 @@ unfolding all_key_faults
 returns c =
     let keys = c.args.keys.now in
     let all : c.loop-place.place ≡ length keys = omega arith in
-    c.loop-place.invariant.faults ∙ ap (λ (n : ℕ). c.args.faults.now.items ++ flat_map (place_faults c.args.number c.args.kind keys c.args.kept.now) (range_with_len 0 n)) all
+    c.loop-place.invariant.faults ∙ ap (λ (n : ℕ). c.args.faults.now.items ++ flat_map (place_faults c.args.number c.args.labels.items keys c.args.kept.now) (range_with_len 0 n)) all
