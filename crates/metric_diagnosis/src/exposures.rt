@@ -106,7 +106,7 @@ const NAMELESS: &str =
 const BAD_LABEL: &str = "which says nothing";
 
 const SAME_LABEL: &str =
-    "which an earlier key has, or which is kept for the meter, for buckets or for the overflow";
+    "which an earlier key has, or which is kept for the meter, for buckets, for the overflow or for a \"job\" or \"instance\" that a server renames";
 
 const SAME_VALUE: &str = "where two of its values are one text, or an empty one is like none";
 
