@@ -1,5 +1,5 @@
 -- Whether what is added can be taken away again.
-use Rattle.std.proofs.Common.{◌≡◌, ◌≤◌, ◌<◌, ◌+◌, ◌-◌, ℕ, Bool, true, false, Option, Some, None, Ok, List, negsuc, ap, inl, inr, subst, sym, unwrap_or, ◌∙◌, arith}
+use Rattle.std.proofs.Common.{◌≡◌, ◌≤◌, ◌+◌, ◌-◌, ℕ, Bool, true, false, Option, Some, None, Ok, List, negsuc, ap, inl, inr, subst, sym, unwrap_or, ◌∙◌, arith}
 use Rattle.std.specs.Prelude.{IsSomeAnd, slice_get, slice_index, slice_index_or}
 use Rattle.std.proofs.lemmas.Option.{same_Some, unwrap_or-slice_get}
 use Rattle.metric_facts.specs.declared.facts.Facts.{Facts}
@@ -9,11 +9,10 @@ use Rattle.metric_provider.specs.Rooms.{AnswersRoom}
 use Rattle.metric_seat.specs.Recordings.{told_at}
 use Rattle.metric_seat.specs.Seats.{ProviderValue, RecorderValue, is_recorder_of, nothing_told}
 use Rattle.metric_slot.specs.declared.told.Told.{Told}
-use Rattle.metric_contents.specs.declared.refusal.Refusal.{Refusal}
-use Rattle.metric_contents.specs.declared.refusal.Refusal.TheVariants.{Stranger, ValueRange, Budget}
+use Rattle.metric_contents.specs.declared.refusal.Refusal.TheVariants.{ValueRange}
 use Rattle.metric_handles.specs.Bounds.{BoundValue}
 use Rattle.metric_handles.specs.Jobs.{TellsNeed}
-use Rattle.metric_handles.specs.Works.{HasRoomForBoth, HasWayBack, LacksBudget, LacksRoomForBoth, LacksWayBack}
+use Rattle.metric_handles.specs.Works.{HasRoomForBoth, HasWayBack, LacksWayBack}
 use Rattle.metric_handles.specs.declared.jobs.Need.{Need}
 
 room_within : (known : Option Facts) (is_own : Bool) (n room : ℕ) (told : Told) (own : Facts) → known ≡ Some own
@@ -42,27 +41,10 @@ has_way_by_budget plan seat i own found ranged enough =
       room = λ other is. subst P (same_Some _ _ (sym found ∙ is)) (omega (arith, enough));
     }
 
-pub lacks_range : (plan : PlanValue) (seat : RecorderValue) (bound : BoundValue) (own : Facts) → slice_get plan.facts.instruments bound.instrument ≡ Some own
-    → bound.plan ≡ print_of plan → in_bounds own (negsuc 0) ≡ false → LacksWayBack plan seat bound ValueRange
-lacks_range plan seat bound own found own_plan out =
+pub lacks_range : (plan : PlanValue) (bound : BoundValue) (own : Facts) → slice_get plan.facts.instruments bound.instrument ≡ Some own
+    → bound.plan ≡ print_of plan → in_bounds own (negsuc 0) ≡ false → LacksWayBack plan bound ValueRange
+lacks_range plan bound own found own_plan out =
     (own_plan, subst (λ (o : Option Facts). IsSomeAnd o (λ (g : Facts). in_bounds g (negsuc 0) ≡ false)) (sym found) out)
-
-lacks_in : (plan : PlanValue) (seat : RecorderValue) (i : ℕ) (own : Facts) → slice_get plan.facts.instruments i ≡ Some own → in_bounds own (negsuc 0) ≡ true
-    → slice_index own.budgets seat.number - (told_at seat i).count < 2 → LacksBudget plan seat i
-lacks_in plan seat i own found ranged less =
-    let P : Facts → Type 0 = λ g. (in_bounds g (negsuc 0) ≡ true) × (slice_index g.budgets seat.number - (told_at seat i).count < 2) in
-    subst (λ (o : Option Facts). IsSomeAnd o P) (sym found) (ranged, less)
-
-lacks_budget : (plan : PlanValue) (seat : RecorderValue) (bound : BoundValue) (own : Facts) → slice_get plan.facts.instruments bound.instrument ≡ Some own
-    → bound.plan ≡ print_of plan → in_bounds own (negsuc 0) ≡ true
-    → slice_index own.budgets seat.number - (told_at seat bound.instrument).count < 2 → LacksWayBack plan seat bound Budget
-lacks_budget plan seat bound own found own_plan ranged less = (own_plan, lacks_in plan seat bound.instrument own found ranged less)
-
--- the lock is asked, and may take the seat for a stranger, only where the budget alone has not enough room
-strange_by_budget : (plan : PlanValue) (seat : RecorderValue) (bound : BoundValue) (own : Facts) → slice_get plan.facts.instruments bound.instrument ≡ Some own
-    → in_bounds own (negsuc 0) ≡ true → slice_index own.budgets seat.number - (told_at seat bound.instrument).count < 2
-    → LacksWayBack plan seat bound Stranger
-strange_by_budget plan seat bound own found ranged less own_plan = lacks_in plan seat bound.instrument own found ranged less
 
 -- what is asked of the lock, by the need of two recordings
 pub has_way : (p : ProviderValue) (seat : RecorderValue) (need : Need) (own : Facts) (left : ℕ) → slice_get p.plan.facts.instruments need.instrument ≡ Some own
@@ -72,16 +54,6 @@ has_way p seat need own left found own_plan ranged is (inl enough) =
     has_way_by_budget p.plan seat need.instrument own found ranged (subst (λ (n : ℕ). 2 ≤ n) is enough)
 has_way p seat need own left found own_plan ranged is (inr told) =
     has_way_by_room p.plan seat need.instrument (is_recorder_of p seat) told.room own found ranged (told.told.own own_plan) told.enough
-
-pub lacks_way : (p : ProviderValue) (seat : RecorderValue) (bound : BoundValue) (need : Need) (own : Facts) (left : ℕ) (refusal : Refusal)
-    → slice_get p.plan.facts.instruments bound.instrument ≡ Some own → bound.plan ≡ print_of p.plan → in_bounds own (negsuc 0) ≡ true
-    → left ≡ slice_index own.budgets seat.number - (told_at seat bound.instrument).count
-    → LacksRoomForBoth (TellsNeed p seat need) left refusal → LacksWayBack p.plan seat bound refusal
-lacks_way p seat bound need own left Budget found own_plan ranged is (less, told) =
-    lacks_budget p.plan seat bound own found own_plan ranged (subst (λ (n : ℕ). n < 2) is less)
-lacks_way p seat bound need own left Stranger found own_plan ranged is (less, told) =
-    strange_by_budget p.plan seat bound own found ranged (subst (λ (n : ℕ). n < 2) is less)
-lacks_way p seat bound need own left other found own_plan ranged is lacks = absurd lacks
 
 pub told_some : (all : List Told) (i : ℕ) (told : Told) → slice_get all i ≡ Some told → (slice_index_or all i nothing_told).count ≡ told.count
 told_some all i told found = ap (λ (t : Told). t.count) (sym (unwrap_or-slice_get all i nothing_told) ∙ ap (λ (o : Option Told). unwrap_or o nothing_told) found)

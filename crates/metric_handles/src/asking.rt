@@ -132,10 +132,9 @@ impl<S> Asking<S> {
 }
 
 impl<S: Recorded> Asking<S> {
-    /// Sees that so many recordings more have room on an instrument, as for a job of several or work that is counted
-    /// while it goes on, before which nothing else asks: what is missing is asked for, and at least as many as the seat
-    /// asks for at once; where fewer are left, all of them. Nothing is refused: `has_room` of an `At` tells what there
-    /// is. Allocates no memory.
+    /// Sees that so many recordings more have room on an instrument, as for a job of several, before which nothing else
+    /// asks: what is missing is asked for, and at least as many as the seat asks for at once; where fewer are left, all
+    /// of them. Nothing is refused: `has_room` of an `At` tells what there is. Allocates no memory.
     pub fn make_room<R: Wait, B: Book, G: Gate>(
         &mut self,
         rt: &R,
@@ -211,5 +210,24 @@ impl<S: Recorded> Seat for Asking<S> {
     ) -> Result<(), SetsFault> {
         self.make_room(rt, provider, instrument, all.len() as u64);
         self.seat.record_sets(rt, provider, instrument, all)
+    }
+}
+
+impl<S: Recorded> Recorded for Asking<S> {
+    ghost makes_room = { λ p old new instrument needed.
+        AsksFirst (MakesRoom p (S.seat old.seat) instrument needed) (λ a b. b ≡ a) old new };
+
+    fn recorder(&self) -> &Recorder {
+        self.seat().recorder()
+    }
+
+    fn make_room<R: Wait, B: Book, G: Gate>(
+        &mut self,
+        rt: &R,
+        provider: &Provider<B, G>,
+        instrument: u32,
+        needed: u64,
+    ) {
+        Asking::make_room(self, rt, provider, instrument, needed)
     }
 }

@@ -7,6 +7,7 @@ ghost use Rattle.metric_seat.specs.Recordings.{admitted};
 ghost use Rattle.metric_handles.specs.Calls.{MakesRecording, MakesRecordings, answer_of, untried_of};
 ghost use Rattle.metric_handles.specs.Counts.{CountsAnswer, count_in, counted_of, counts_after, counts_of, no_counts, place_of, refused_before};
 
+use crate::recorded::Recorded;
 use crate::seat::Seat;
 use metric_contents::{Attr, Refusal, SetKey};
 use metric_history::Book;
@@ -276,6 +277,25 @@ impl<S: Seat> Seat for Counted<S> {
         all: &[Measurement],
     ) -> Result<(), SetsFault> {
         Counted::record_sets(self, rt, provider, instrument, all)
+    }
+}
+
+impl<S: Recorded> Recorded for Counted<S> {
+    ghost makes_room = { λ p old new instrument needed.
+        S.makes_room p old.seat new.seat instrument needed × (new.counts ≡ old.counts) };
+
+    fn recorder(&self) -> &Recorder {
+        self.seat().recorder()
+    }
+
+    fn make_room<R: Wait, B: Book, G: Gate>(
+        &mut self,
+        rt: &R,
+        provider: &Provider<B, G>,
+        instrument: u32,
+        needed: u64,
+    ) {
+        self.seat.make_room(rt, provider, instrument, needed)
     }
 }
 

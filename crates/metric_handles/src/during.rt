@@ -1,8 +1,8 @@
 //! Work that is counted while it goes on.
-ghost use Rattle.std.specs.Prelude.{◌≡◌, ◌-◌, IfErr, OnOk, slice_index};
+ghost use Rattle.std.specs.Prelude.{◌≡◌, ◌-◌, IfErr, IfOk, OnOk, slice_index};
 ghost use Rattle.std.specs.Fn.{FnOnceReturnsAtMut};
 ghost use Rattle.metric_handles.specs.Calls.{MakesByBound};
-ghost use Rattle.metric_handles.specs.Works.{Begins, ComesBack, HasRoomForBoth, HasWayBack, LacksRoomForBoth, LacksWayBack};
+ghost use Rattle.metric_handles.specs.Works.{Begins, ComesBack, HasRoomForBoth, HasWayBack, LacksBoth, LacksRoomForBoth, LacksWayBack, TakesBack};
 ghost use Rattle.metric_seat.specs.Recordings.{told_at};
 
 use crate::at::At;
@@ -13,6 +13,7 @@ use crate::rooms::{Rooms, RoomsOf};
 use metric_contents::Refusal;
 use metric_facts::Facts;
 use metric_history::Book;
+use metric_plan::Plan;
 use metric_provider::{Gate, Recorder};
 use std::sync::Wait;
 
@@ -23,9 +24,10 @@ impl<R: Wait, S: Recorded, B: Book, G: Gate> At<'_, R, S, B, G> {
     /// with what it gave comes the first refusal.
     ///
     /// Nothing is added where it could not be taken away again: where the instrument's range has no -1
-    /// (`ValueRange`), and where the recorder has no room for both recordings (`Budget`). The seat is not asked then,
-    /// so a [`Counted`](crate::Counted) one counts nothing. What the work itself records on the instrument takes of
-    /// the same room, and an instrument that is closed meanwhile keeps the count: the refusal tells.
+    /// (`ValueRange`), and where the recorder has no room for both recordings (`Budget`), once the seat has made room
+    /// for both ([`Recorded::make_room`]). The seat is not called then, so a [`Counted`](crate::Counted) one counts
+    /// nothing. What the work itself records on the instrument takes of the same room, and an instrument that is closed
+    /// meanwhile keeps the count: the refusal tells.
     pub fn during<T, F: FnOnce(&mut S) -> T>(
         &mut self,
         active: &BoundUpDownCounter,
@@ -37,7 +39,7 @@ impl<R: Wait, S: Recorded, B: Book, G: Gate> At<'_, R, S, B, G> {
         ensures counted { let p = self.old.provider.now in
             let makes = MakesByBound B.KEEPS_ENTRIES B.spares_memory S.seat S.notes S.records_set p
             active.now in
-            ComesBack S.seat makes (FnOnceReturnsAtMut F.FnOnce work) p.plan active.now
+            ComesBack S.seat (S.makes_room p) makes (FnOnceReturnsAtMut F.FnOnce work) p active.now
             self.old.seat.now self.new.seat.now result.0 result.1 }
     {
         let began = self.begin(active);
@@ -51,38 +53,32 @@ impl<R: Wait, S: Recorded, B: Book, G: Gate> At<'_, R, S, B, G> {
         }
     }
 
-    // Adds 1, where it can be taken away again.
+    // Adds 1, where it can be taken away again, once the seat has made room for both.
     fn begin(&mut self, active: &BoundUpDownCounter) -> Result<(), Refusal>
         ensures same { self.new.seat.ghost_name ≡ self.old.seat.ghost_name }
         ensures provider { self.new.provider.now ≡ self.old.provider.now }
         ensures begins { let p = self.old.provider.now in
             let makes = MakesByBound B.KEEPS_ENTRIES B.spares_memory S.seat S.notes S.records_set p
             active.now in
-            Begins S.seat makes p.plan active.now self.old.seat.now self.new.seat.now result }
+            Begins S.seat (S.makes_room p) makes p active.now self.old.seat.now self.new.seat.now
+            result }
     {
-        self.has_way_back(active)?;
+        let facts = takes_back(self.provider.plan(), active)?;
+        self.seat
+            .make_room(self.rt, self.provider, active.number(), 2);
+        self.has_both(active, facts)?;
         active.add(self.rt, self.provider, self.seat, 1)
     }
 
-    // Whether 1 can be taken away again, once it is added.
-    #[tactic(auto, using(crate::proofs::WayLaws::has_way, crate::proofs::WayLaws::lacks_range, crate::proofs::WayLaws::lacks_way))]
-    fn has_way_back(&self, active: &BoundUpDownCounter) -> Result<(), Refusal>
-        ensures ok { let plan = self.now.provider.now.plan in let seat = S.seat self.now.seat.now in
-            OnOk result (HasWayBack plan seat active.now.instrument) }
-        ensures err { let plan = self.now.provider.now.plan in let seat = S.seat self.now.seat.now in
-            IfErr result (LacksWayBack plan seat active.now) }
+    // Whether there is room for what is added and for what is taken away.
+    #[tactic(auto, using(crate::proofs::WayLaws::has_way))]
+    fn has_both(&self, active: &BoundUpDownCounter, facts: &Facts) -> Result<(), Refusal>
+        requires { TakesBack self.now.provider.now.plan active.now facts.now }
+        ensures ok { let p = self.now.provider.now in let seat = S.seat self.now.seat.now in
+            OnOk result (HasWayBack p.plan seat active.now.instrument) }
+        ensures err { let p = self.now.provider.now in let seat = S.seat self.now.seat.now in
+            IfErr result (LacksBoth p seat active.now) }
     {
-        let (plan, number) = (self.provider.plan(), active.number());
-        if active.plan() != plan.fingerprint() {
-            return Err(Refusal::Stranger);
-        }
-        if number as usize >= plan.all_facts().len() {
-            return Err(Refusal::UnknownInstrument);
-        }
-        let facts = plan.facts(number);
-        if !facts.admits(&-1) {
-            return Err(Refusal::ValueRange);
-        }
         let recorder = self.seat.recorder();
         let rooms = RoomsOf {
             recorder,
@@ -91,11 +87,31 @@ impl<R: Wait, S: Recorded, B: Book, G: Gate> At<'_, R, S, B, G> {
         };
         let both = Need {
             plan: active.plan(),
-            instrument: number,
+            instrument: active.number(),
             count: 2,
         };
-        has_room(&rooms, &both, left_in(facts, recorder, number))
+        has_room(&rooms, &both, left_in(facts, recorder, both.instrument))
     }
+}
+
+// The facts of the instrument that attributes are bound to, where its range has -1.
+#[tactic(auto, using(crate::proofs::WayLaws::lacks_range))]
+fn takes_back<'a>(plan: &'a Plan, active: &BoundUpDownCounter) -> Result<&'a Facts, Refusal>
+    ensures ok { IfOk result (λ facts. TakesBack plan.now active.now facts.now) }
+    ensures err { IfErr result (LacksWayBack plan.now active.now) }
+{
+    let number = active.number();
+    if active.plan() != plan.fingerprint() {
+        return Err(Refusal::Stranger);
+    }
+    if number as usize >= plan.all_facts().len() {
+        return Err(Refusal::UnknownInstrument);
+    }
+    let facts = plan.facts(number);
+    if !facts.admits(&-1) {
+        return Err(Refusal::ValueRange);
+    }
+    Ok(facts)
 }
 
 // Whether there is room for two recordings, where so many are left of the budget alone. The lock is taken only where

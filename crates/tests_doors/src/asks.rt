@@ -2,7 +2,9 @@
 use crate::asserted::OrFail;
 use crate::page::Page;
 use crate::services::{Service, counted};
-use metric_handles::{Asking, Counted, Counter, Recorded, counter};
+use metric_handles::{
+    AnySeat, Asking, BoundUpDownCounter, Counted, Counter, Recorded, counter, up_down_counter,
+};
 use metric_sdk::{MeterProvider, Plan, Refusal};
 use std::alloc::Global;
 use std::process::Abort;
@@ -16,6 +18,11 @@ name = 'orders'
 kind = 'counter'
 range = [1, 100]
 spare = 10
+[[meter.instrument]]
+name = 'active'
+kind = 'up_down_counter'
+range = [-1, 1]
+spare = 5
 [[recorder]]
 name = 'till'
 budget = [{ instrument = 0, amount = 3 }]
@@ -203,4 +210,59 @@ fn room_is_made_for_a_job(rt: HostRuntime) {
     seat.make_room(&rt, &other.provider, 0, 99);
     page.tell(other.provider.spare_left(&rt, 0).or_fail(&rt));
     page.assert(MADE);
+}
+
+// Writes what becomes of work that is counted, and what is then left of the spare.
+fn tell_work<R: Abort + Wait, S: Recorded>(
+    page: &mut Page<'_, R>,
+    provider: &MeterProvider,
+    active: &BoundUpDownCounter,
+    seat: &mut S,
+) {
+    page.tell(seat.at(page.rt, provider).during(active, |_| ()).1);
+    let left = provider.spare_left(page.rt, active.number());
+    page.tell(left.or_fail(page.rt))
+}
+
+// A seat without a budget asks for both recordings of work that is counted, as long as the spare has both; then nothing
+// is counted, and it wants the next run. The same of one that counts what it is refused, which is nothing here.
+const WORK: &str = "Ok(())
+3
+Ok(())
+1
+Err(Budget)
+0
+Ok(())
+3
+Ok(())
+1
+Err(Budget)
+0
+(0, true)
+";
+
+#[test]
+fn work_is_counted_by_what_a_seat_asks_for(rt: HostRuntime) {
+    let mut page = Page::new(&rt, rt.alloc());
+    let mut service = shop(&rt, rt.alloc(), 1);
+    let seat = service.take(&rt, "till");
+    let provider = &service.provider;
+    let plan = provider.plan();
+    let active = up_down_counter(plan, "shop", "active", &[]).or_fail(&rt);
+    let active = active.bind(plan, &[]).or_fail(&rt);
+    let mut seat = asking(&rt, rt.alloc(), plan, seat, 0);
+    for _turn in 0..3 {
+        tell_work(&mut page, provider, &active, &mut seat);
+    }
+    let mut other = shop(&rt, rt.alloc(), 2);
+    let seat = other.take(&rt, "till");
+    let provider = &other.provider;
+    let seat = asking(&rt, rt.alloc(), provider.plan(), seat, 0);
+    let mut till: Till = counted(&rt, rt.alloc(), provider.plan(), seat);
+    for _turn in 0..3 {
+        tell_work(&mut page, provider, &active, &mut till);
+    }
+    let refused = till.refused(active.number(), Refusal::Budget);
+    page.tell((refused, till.seat().wants_next_run()));
+    page.assert(WORK);
 }
