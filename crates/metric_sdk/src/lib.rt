@@ -96,9 +96,9 @@
 //! read its [`RunningCounts`], and `StopFlag::wake` makes it export now.
 //!
 //! A [`TextExporter`] writes each batch with an [`Encoding`]: [`Plain`] is its text, [`OtlpLines`] the lines of a file
-//! that the OpenTelemetry Collector reads, and [`OtlpBytes`] what an OTLP receiver takes. The latter two add the
-//! attributes of a [`Resource`] (or return a [`ResourceFault`]). `TextExporter::of` and `ReopeningExporter::of` take
-//! any encoding.
+//! that the OpenTelemetry Collector reads, and [`OtlpBytes`] what an OTLP receiver takes. The latter two are made for one
+//! reader ([`Served`]), or not at all ([`OutletFault`]), and add the attributes of a [`Resource`] (or return a
+//! [`ResourceFault`]). `TextExporter::of` and `ReopeningExporter::of` take any encoding.
 //!
 //! An export can fail with an [`ExportFault`]. A [`Queued`] keeps what was refused and retries it before the next
 //! batch, so that the window of a delta reader is not lost; other threads read the [`QueueCounts`] of a [`ToldQueue`].
@@ -108,14 +108,15 @@
 //! [`collect_each`], a [`RefusedInstrument`] of a [`Collection`] hides no other. [`export_each`] exports a list and
 //! says what was [`Handed`] on; [`has_points`] says which batches need not be.
 //!
-//! An exporter of your own refuses a batch of another plan with [`own_plan`]. A batch has the [`StreamPoints`] of each
+//! An exporter of your own refuses a batch of another plan with [`own_plan`], and with [`own_batch`] one of a reader whose
+//! batches it does not take. A batch has the [`StreamPoints`] of each
 //! [`Stream`], and a [`Point`] the [`PointValue`] of one series, whose [`attributes`] the plan knows. To collect by
 //! hand, a [`Collector`] collects the [`Batch`] of one instrument or of all, up to an [`AllFault`]; [`write_batch`]
 //! writes a batch as text, and [`write_encoded`] as bytes.
 //!
 //! For Prometheus, an [`Exposition`] has the lines of a page in a [`Dialect`], and a [`PageExporter`] hands the whole
-//! page to [`Pages`] after each collection, such as a file that node_exporter reads. Two attributes of a resource with
-//! one label are a [`TargetFault`]. Before anything is recorded, [`expose`] says whether a server would hold each
+//! page of one reader to [`Pages`] after each collection, such as a file that node_exporter reads. Two attributes of a
+//! resource with one label are a [`TargetFault`]. Before anything is recorded, [`expose`] says whether a server would hold each
 //! sample of a reader's pages, and [`expose_to_otlp`] whether each boundary leaves as it is, or the first
 //! [`ExposureFault`].
 //!
@@ -278,6 +279,7 @@ pub use metric_export::ToldQueue;
 pub use metric_export::attributes;
 pub use metric_export::export_each;
 pub use metric_export::has_points;
+pub use metric_export::own_batch;
 pub use metric_export::own_plan;
 pub use metric_export::write_batch;
 pub use metric_export::write_encoded;
