@@ -27,20 +27,14 @@ exported_after exported (Err fault) = exported
 -- those that it neither took nor keeps
 abbrev pub refused_after : ℕ → Result (Unit {0}) ExportFault → ℕ
 refused_after failed (Ok done) = failed
-refused_after failed (Err fault.Write) = next_count failed
-refused_after failed (Err fault.ShutDown) = next_count failed
-refused_after failed (Err fault.Memory) = next_count failed
 refused_after failed (Err fault.Kept) = failed
-refused_after failed (Err fault.OtherPlan) = next_count failed
+refused_after failed (Err other) = next_count failed
 
 -- those that it keeps to try them again
 abbrev pub delayed_after : ℕ → Result (Unit {0}) ExportFault → ℕ
 delayed_after delayed (Ok done) = delayed
-delayed_after delayed (Err fault.Write) = delayed
-delayed_after delayed (Err fault.ShutDown) = delayed
-delayed_after delayed (Err fault.Memory) = delayed
 delayed_after delayed (Err fault.Kept) = next_count delayed
-delayed_after delayed (Err fault.OtherPlan) = delayed
+delayed_after delayed (Err other) = delayed
 
 -- a batch was handed on, once, and counted by the exporter's answer
 pub record HandsOnOne (text : Batch → List ℕ) (old new : Handed) (batch : Batch) : Type 0 where
