@@ -113,6 +113,11 @@ static const wormweekly_attribute NINE[] = {
     { 1, WORMWEEKLY_YES, 0, 0 }, { 1, WORMWEEKLY_YES, 0, 0 }, { 1, WORMWEEKLY_YES, 0, 0 },
 };
 
+/* Far more than a recording looks at, each with a key of one byte, as `fill_keys` makes them; and so many keys. */
+static wormweekly_attribute KEYS[100000];
+#define KEYS_64 "ABCDEFGHIJKLMNOPQRSTUVWXYZabcdefghijklmnopqrstuvwxyz0123456789-+"
+#define KEYS_65 KEYS_64 "*"
+
 /* The handles of two runs, those of the second after those of the first, and what was prepared last. */
 static wormweekly_instrument instruments[2 * INSTRUMENTS] = { WORMWEEKLY_NOTHING };
 static wormweekly_recorder recorders[2 * RECORDERS] = { WORMWEEKLY_NOTHING };
@@ -712,6 +717,9 @@ static const struct row ORDERS_ROWS[] = {
     { CALL(record), .texts = "countrydepait", GIVEN(PAID), .answer = WORMWEEKLY_UNKNOWN_KEY },
     { CALL(record), .texts = "abcdefghi", GIVEN(NINE), .answer = WORMWEEKLY_UNKNOWN_KEY },
     { CALL(record), .texts = "abcdefgh", GIVEN(NINE), .answer = WORMWEEKLY_NO_TEXT },
+    { CALL(record), .texts = KEYS_65, GIVEN(KEYS), .answer = WORMWEEKLY_UNKNOWN_KEY },
+    { CALL(record), .texts = KEYS_64 "A", GIVEN(KEYS), .answer = WORMWEEKLY_DUPLICATE_KEY },
+    { CALL(record), .texts = KEYS_64, GIVEN(KEYS), .answer = WORMWEEKLY_NO_TEXT },
     { CALL(record), .texts = "countryukpaid", GIVEN(PAID), .answer = WORMWEEKLY_UNKNOWN_VALUE },
     { CALL(record), .texts = "countrydepaid", GIVEN(UNPAID), .answer = WORMWEEKLY_UNKNOWN_VALUE },
     { CALL(record), .texts = "countryde", GIVEN(COUNTRY), .answer = WORMWEEKLY_MISSING_KEY },
@@ -721,6 +729,8 @@ static const struct row ORDERS_ROWS[] = {
     { CALL(explain), .texts = "countrydecountryfr", GIVEN(TWICE), .text = "orders: key \"country\" stands twice" },
     { CALL(explain), .texts = "countrydepait", GIVEN(PAID), .text = "orders: key \"pait\" is not declared" },
     { CALL(explain), .texts = "abcdefghi", GIVEN(NINE), .text = "orders: key \"a\" is not declared" },
+    { CALL(explain), .texts = KEYS_65, GIVEN(KEYS), .text = "orders: key \"A\" is not declared" },
+    { CALL(explain), .texts = KEYS_64 "A", GIVEN(KEYS), .text = "orders: key \"A\" stands twice" },
     { CALL(explain), .texts = "countryukpaid", GIVEN(PAID), .text = "orders: key \"country\" has no value \"uk\"" },
     { CALL(explain), .texts = "country\x1b[paid", GIVEN(PAID), .text = "orders: key \"country\" has no value \"\\u{1b}[\"" },
     { CALL(explain), .texts = "countrydepaid", GIVEN(UNPAID), .text = "orders: key \"paid\" has no value false" },
@@ -739,6 +749,8 @@ static const struct row ORDERS_ROWS[] = {
     { CALL(prepare), .texts = "countryfrpaid", GIVEN(PAID), .numbers = { 2, 1 } },
     { CALL(prepare), .texts = "country", GIVEN(PAID), .answer = WORMWEEKLY_NO_TEXT, .numbers = { 2, 1 } },
     { CALL(prepare), .texts = "abcdefghi", GIVEN(NINE), .answer = WORMWEEKLY_UNKNOWN_KEY, .numbers = { 2, 1 } },
+    { CALL(prepare), .texts = KEYS_65, GIVEN(KEYS), .answer = WORMWEEKLY_UNKNOWN_KEY, .numbers = { 2, 1 } },
+    { CALL(prepare), .texts = KEYS_64 "A", GIVEN(KEYS), .answer = WORMWEEKLY_DUPLICATE_KEY, .numbers = { 2, 1 } },
     { CALL(prepare), .number = INSTRUMENTS, .texts = "countryfrpaid", GIVEN(PAID),
       .answer = WORMWEEKLY_UNKNOWN_INSTRUMENT, .numbers = { 2, 1 } },
     { CALL(prepare), .texts = "countrydepaid", GIVEN(PAID_7), .answer = WORMWEEKLY_COMBINATION, .numbers = { 2, 1 } },
@@ -988,9 +1000,16 @@ static void free_all(void) {
     free_handles(&all);
 }
 
+static void fill_keys(void) {
+    for (size_t at = 0; at < sizeof KEYS / sizeof *KEYS; at++) {
+        KEYS[at] = (wormweekly_attribute){ 1, WORMWEEKLY_YES, 0, 0 };
+    }
+}
+
 #define ROWS(table) (table), sizeof(table) / sizeof *(table)
 
 int main(void) {
+    fill_keys();
     check(ROWS(OPENING_ROWS));
     check(ROWS(ORDERS_ROWS));
     check(ROWS(ARTICLES_ROWS));

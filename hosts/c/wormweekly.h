@@ -30,8 +30,9 @@
  *
  * The keys and texts of all attributes of a call stand one after the other in one buffer, and beside it a list of
  * wormweekly_attribute says how long each is. So {"country" = "de", "paid" = yes} is the text "countrydepaid" with the
- * list { { 7, WORMWEEKLY_TEXT, 2, 0 }, { 4, WORMWEEKLY_YES, 0, 0 } }. Up to eight attributes take no memory. Any order will
- * do; that of the catalogue's keys is found fastest. Who records one set of attributes often prepares its set key once. Where
+ * list { { 7, WORMWEEKLY_TEXT, 2, 0 }, { 4, WORMWEEKLY_YES, 0, 0 } }. Up to eight attributes take no memory. Of the attributes
+ * of a recording the first 65 are looked at: an instrument has at most 8 keys, so of 65 a key stands twice or is not declared,
+ * and the recording is refused for that. Any order will do; that of the catalogue's keys is found fastest. Who records one set of attributes often prepares its set key once. Where
  * threads share an instrument, find the attributes before its mutex is taken, by wormweekly_prepare, and make the recording
  * under it, by wormweekly_record_prepared: so the others wait for less.
  *
@@ -262,7 +263,7 @@ uint32_t wormweekly_prepare(wormweekly_recorder *recorder, uint32_t instrument, 
 /* Writes what such a recording of a value is refused for, of what it says, as `orders: key "country" has no value "uk"`: the name
  * of the instrument, and the key, the value or the range of its first mistake. The words may change with each version, and are
  * cut after 400 characters. The text is empty where all that it says is in order, so that it is refused for something else, if
- * at all. Where there is too little room, only the length is written. Nothing is recorded. Needs no mutex. It compares each key with all after it, so give it few attributes. */
+ * at all. Where there is too little room, only the length is written. Nothing is recorded. Needs no mutex. */
 uint32_t wormweekly_explain(wormweekly_recorder *recorder, uint32_t instrument, const uint8_t *texts, size_t texts_length,
                             const wormweekly_attribute *attributes, size_t attributes_length, int64_t value, uint8_t *out,
                             size_t room, size_t *text_length);

@@ -37,6 +37,11 @@ given_first own texts =
     (λ (value : AttrValue × List ℕ). ((key.0, value.0), value.1)) (value_first own key.1))
     (text_first own.key texts)
 
+-- the attributes of a recording that are looked at: of so many a key stands
+-- twice or is not declared
+abbrev pub looked_at : List Attribute → List Attribute
+looked_at given = take 65 given
+
 -- # attributes given flat (profile)
 -- The attributes of a list of lengths over one text: each takes its key, and its value where that
 -- is a text, from the front; none where a length leads past, a text is no UTF-8, or there is no

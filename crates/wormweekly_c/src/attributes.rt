@@ -1,7 +1,7 @@
 //! Attributes as a host gives them.
 ghost use Rattle.std.specs.Prelude.{◌≡◌, ◌≤◌, Some, length, map, option_map, take, IfErr, IfOk, IsTrue};
 ghost use Rattle.std.specs.Str.{IsAscii};
-ghost use Rattle.wormweekly_c.specs.Attributes.{attributes_from, given_first, plain_value, text_first};
+ghost use Rattle.wormweekly_c.specs.Attributes.{attributes_from, given_first, looked_at, plain_value, text_first};
 ghost use Rattle.wormweekly_c.specs.Reading.{ReadsFew, Refuses};
 ghost use Rattle.metric_contents.specs.Attributes.{given_by};
 ghost use Rattle.metric_names.specs.Values.{value_of};
@@ -36,6 +36,20 @@ pub(crate) enum Unread {
 pub(crate) struct FewAttributes<'a> {
     pub(crate) all: [Attr<'a>; 8],
     pub(crate) are_read: bool,
+}
+
+// Of so many attributes a key stands twice or is not declared, since an instrument has at most eight keys: what follows
+// could not mend that, and the keys are compared with one another.
+const MOST: usize = 65;
+
+/// The attributes of a recording that are looked at.
+pub(crate) fn looked_at(given: &[Attribute]) -> &[Attribute]
+    ensures { result.now ≡ looked_at given.now }
+{
+    if given.len() <= MOST {
+        return given;
+    }
+    given.split_at(MOST).0
 }
 
 /// At most eight attributes. Allocates no memory.

@@ -2,13 +2,13 @@
 ghost use Rattle.std.specs.Prelude.{◌≡◌, ◌≢◌, ◌⊎◌, ◌++◌, IfOk, codes, map};
 ghost use Rattle.std.specs.Option.{option_map};
 ghost use Rattle.metric_advice.specs.Explanations.{explained, told_of};
-ghost use Rattle.wormweekly_c.specs.Attributes.{attributes_from};
+ghost use Rattle.wormweekly_c.specs.Attributes.{attributes_from, looked_at};
 ghost use Rattle.wormweekly_c.specs.Codes.{WhereHeld};
 ghost use Rattle.wormweekly_c.specs.Explaining.{AnswersExplained, AnswersExplanation, BeginsWith, IsExplanation};
 ghost use Rattle.metric_contents.specs.Attributes.{given_by};
 ghost use Rattle.metric_text.specs.Lists.{numbered};
 
-use crate::attributes::{Attribute, Unread, all_attributes};
+use crate::attributes::{Attribute, Unread, all_attributes, looked_at};
 use crate::codes::{MEMORY, NO_TEXT, NOT_OPEN};
 use crate::recorder_handle::RecorderHandle;
 use crate::texts::copy_text;
@@ -33,7 +33,7 @@ pub extern "C" fn wormweekly_explain(
     out: &mut [u8],
     text_length: &mut usize,
 ) -> u32
-    ensures answer { let read = attributes_from given.now texts.now in
+    ensures answer { let read = attributes_from (looked_at given.now) texts.now in
         WhereHeld recorder.old.value (result ≡ 100) (λ own.
         AnswersExplained own.plan instrument read value out.old out.new text_length.new result) }
     ensures recorder { recorder.new.value ≡ recorder.old.value }
@@ -48,7 +48,7 @@ pub extern "C" fn wormweekly_explain(
         &own,
         instrument,
         texts,
-        given,
+        looked_at(given),
         value,
         out,
         text_length,

@@ -1,13 +1,13 @@
 //! Recordings of set keys that were prepared.
 ghost use Rattle.std.specs.Prelude.{◌≡◌, ◌≢◌, Some, length, map};
-ghost use Rattle.wormweekly_c.specs.Attributes.{attributes_from};
+ghost use Rattle.wormweekly_c.specs.Attributes.{attributes_from, looked_at};
 ghost use Rattle.wormweekly_c.specs.Codes.{Changes, IsCodeOf, WhereBoth, WhereHeld};
 ghost use Rattle.wormweekly_c.specs.Prepared.{IsEncoded, IsPrepared, RecordsList};
 ghost use Rattle.wormweekly_c.specs.Recordings.{AnswersKey, RecordsKey};
 ghost use Rattle.metric_contents.specs.Attributes.{given_by};
 ghost use Rattle.metric_contents.specs.Encoding.{encode_of};
 
-use crate::attributes::{Attribute, Unread, all_attributes, few_attributes};
+use crate::attributes::{Attribute, Unread, all_attributes, few_attributes, looked_at};
 use crate::codes::{DONE, MEMORY, NO_TEXT, NOT_OPEN};
 use crate::in_order::encoded_in_order;
 use crate::instrument_handle::InstrumentHandle;
@@ -28,9 +28,10 @@ pub extern "C" fn wormweekly_prepare(
     given: &[Attribute],
     prepared: &mut Measurement,
 ) -> u32
-    ensures answer { let read = attributes_from given.now texts.now in
+    ensures answer { let given = looked_at given.now in
+        let read = attributes_from given texts.now in
         WhereHeld recorder.old.value (result ≡ 100) (λ own.
-        IsPrepared own.plan instrument (length given.now) read result prepared.new.set) }
+        IsPrepared own.plan instrument (length given) read result prepared.new.set) }
     ensures refused { result ≢ 0 → prepared.new ≡ prepared.old }
     ensures value { prepared.new.value ≡ prepared.old.value }
     ensures recorder { recorder.new.value ≡ recorder.old.value }
@@ -38,7 +39,7 @@ pub extern "C" fn wormweekly_prepare(
     let Some(own) = recorder.take(alloc) else {
         return NOT_OPEN;
     };
-    let code = prepare_given(alloc, &own, instrument, texts, given, prepared);
+    let code = prepare_given(alloc, &own, instrument, texts, looked_at(given), prepared);
     recorder.put(own);
     code
 }

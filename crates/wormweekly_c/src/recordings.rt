@@ -1,11 +1,11 @@
 //! Recordings.
 ghost use Rattle.std.specs.Prelude.{◌≡◌, ◌≢◌, IsSomeAnd, length, map};
-ghost use Rattle.wormweekly_c.specs.Attributes.{attributes_from};
+ghost use Rattle.wormweekly_c.specs.Attributes.{attributes_from, looked_at};
 ghost use Rattle.wormweekly_c.specs.Codes.{Changes, IsCodeOf, IsCodeOfRead, WhereBoth};
 ghost use Rattle.wormweekly_c.specs.Recordings.{AnswersGiven, AnswersKey, RecordsGiven, RecordsKey};
 ghost use Rattle.metric_contents.specs.Attributes.{given_by};
 
-use crate::attributes::{Attribute, Unread, all_attributes, few_attributes};
+use crate::attributes::{Attribute, Unread, all_attributes, few_attributes, looked_at};
 use crate::codes::{MEMORY, NO_TEXT, NOT_OPEN, code_of};
 use crate::in_order::encoded_in_order;
 use crate::instrument_handle::InstrumentHandle;
@@ -15,7 +15,8 @@ use metric_facts::laws::attributes_name_allowed_sets;
 use metric_hosted::{Hosted, HostedRecorder};
 use std::alloc::Global;
 
-/// Makes a recording of a recorder on an instrument (Metrics API, synchronous instruments).
+/// Makes a recording of a recorder on an instrument (Metrics API, synchronous instruments). Of more than 65 attributes
+/// the first 65 are looked at, and refused.
 #[unsafe(no_mangle)]
 pub extern "C" fn wormweekly_record(
     alloc: Global,
@@ -25,11 +26,12 @@ pub extern "C" fn wormweekly_record(
     given: &[Attribute],
     value: i64,
 ) -> u32
-    ensures answer { let read = attributes_from given.now texts.now in
+    ensures answer { let given = looked_at given.now in
+        let read = attributes_from given texts.now in
         WhereBoth instrument.old.value recorder.old.value (result ≡ 100) (λ h own.
-        IsCodeOfRead (length given.now) read (λ attrs. AnswersGiven attrs value h own) result) }
+        IsCodeOfRead (length given) read (λ attrs. AnswersGiven attrs value h own) result) }
     ensures done { let held = instrument.new.value in let seat = recorder.new.value in
-        result ≡ 0 → IsSomeAnd (attributes_from given.now texts.now) (λ attrs.
+        result ≡ 0 → IsSomeAnd (attributes_from (looked_at given.now) texts.now) (λ attrs.
         Changes instrument.old.value held recorder.old.value seat (RecordsGiven attrs value)) }
     ensures instrument { result ≢ 0 → instrument.new.value ≡ instrument.old.value }
     ensures recorder { result ≢ 0 → recorder.new.value ≡ recorder.old.value }
@@ -41,7 +43,7 @@ pub extern "C" fn wormweekly_record(
         instrument.put(held);
         return NOT_OPEN;
     };
-    let code = record_given(alloc, &mut held, &mut own, texts, given, value);
+    let code = record_given(alloc, &mut held, &mut own, texts, looked_at(given), value);
     recorder.put(own);
     instrument.put(held);
     code
