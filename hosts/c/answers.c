@@ -464,6 +464,14 @@ static struct told ask(const struct row *row) {
     return answered(wormweekly_ask(&instruments[row->instrument], &recorders[row->recorder], row->amount));
 }
 
+static struct told range(const struct row *row) {
+    wormweekly_range_out out = { 0, 0 };
+    struct told told = answered(wormweekly_range(&recorders[row->recorder], row->number, &out));
+    told.numbers[0] = out.least;
+    told.numbers[1] = out.greatest;
+    return told;
+}
+
 static struct told budget(const struct row *row) {
     wormweekly_budget_out out = { 0 };
     struct told told =
@@ -890,6 +898,11 @@ static const struct row QUEUE_ROWS[] = {
     { CALL(name), .kind = 3, .number = CHANGES, .text = "changes" },
     { CALL(name), .kind = 3, .number = UINT32_MAX, .answer = WORMWEEKLY_UNKNOWN },
     { CALL(name), .kind = 4, .answer = WORMWEEKLY_UNKNOWN },
+    { CALL(range), .number = ORDERS, .numbers = { -100, 100 } },
+    { CALL(range), .number = ARTICLES, .numbers = { 0, 100 } },
+    { CALL(range), .recorder = NIGHT, .number = QUEUE, .numbers = { 0, 9 } },
+    { CALL(range), .number = INSTRUMENTS, .answer = WORMWEEKLY_UNKNOWN },
+    { CALL(range), .number = UINT32_MAX, .answer = WORMWEEKLY_UNKNOWN },
     { CALL(warnings), .text = WARNINGS },
     { CALL(warnings), .is_short = 1, .answer = WORMWEEKLY_TOO_SHORT, .numbers = { sizeof WARNINGS - 1 } },
 };
@@ -923,6 +936,7 @@ static const struct row FREED_ROWS[] = {
     { CALL(reader_name), .reader = CHANGES },
     { CALL(ask), .recorder = NIGHT },
     { CALL(explain), .recorder = NIGHT, .texts = "countrydepaid", GIVEN(PAID) },
+    { CALL(range), .recorder = NIGHT },
     { CALL(budget), .recorder = NIGHT },
     { CALL(headrooms), .recorder = NIGHT },
     { CALL(settle), ALL_RECORDERS },

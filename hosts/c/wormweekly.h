@@ -162,6 +162,12 @@ typedef struct {
     uint64_t left;
 } wormweekly_spare_out;
 
+/* The least and the greatest value that may be recorded on an instrument. */
+typedef struct {
+    int64_t least;
+    int64_t greatest;
+} wormweekly_range_out;
+
 /* How often an instrument may be recorded, all recorders together: as often as the catalogue declares, with what it spares; the
  * most that is safe while all else stays as it is; and what one more would break: a count (0), two sums 2^64 apart (1), the
  * least (2) or the greatest int64_t (3), or the series of a stream (4), whose number is in `stream`. */
@@ -348,6 +354,10 @@ uint32_t wormweekly_name(wormweekly_recorder *recorder, uint32_t kind, uint32_t 
 /* The same names through a reader, where the catalogue declares no recorder. */
 uint32_t wormweekly_reader_name(wormweekly_reader *reader, uint32_t kind, uint32_t number, uint8_t *out, size_t room,
                                 size_t *text_length);
+
+/* Writes the range of the instrument of a number, so that a host records a duration above it as the greatest value, rather than
+ * not at all. Needs no mutex. */
+uint32_t wormweekly_range(wormweekly_recorder *recorder, uint32_t instrument, wormweekly_range_out *out);
 
 /* Writes a line for each warning that the config gets: for each view that does not fit an instrument (streams that collide
  * are a fault of the opening). Where there is too little room, only the length is written. Needs no mutex. */

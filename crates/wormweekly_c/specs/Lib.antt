@@ -22,6 +22,7 @@ pub mod Otlp
 pub mod Pages
 pub mod Exposed
 pub mod Walking
+pub mod Ranges
 pub mod Settlements
 pub mod Closing
 pub mod Granting

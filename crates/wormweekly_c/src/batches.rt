@@ -118,7 +118,7 @@ pub extern "C" fn wormweekly_point(
 }
 
 // Writes what was found.
-fn write<T: Copy + Drop>(found: Option<T>, out: &mut T) -> u32
+pub(crate) fn write<T: Copy + Drop>(found: Option<T>, out: &mut T) -> u32
     ensures answer { IsWritten found out.new result }
     ensures refused { result ≢ 0 → out.new ≡ out.old }
 {
