@@ -34,6 +34,35 @@
 //! }
 //! ```
 //!
+//! # Recordings of any thread
+//!
+//! [`Opened::share`] gives the recorders to the instruments, on which any thread records then, as a service wants it that has more
+//! threads than recorders. The recorders are shards: a recording takes one that is free, goes on to the next where a budget is
+//! spent, then asks the spare budget, and only then is it refused. What is refused is counted, and told once for each reason.
+//!
+//! ```
+//! use wormweekly::{Key, SharedInstrument, TimeUnit};
+//!
+//! const ROUTE: Key = Key::new("http.route");
+//!
+//! struct Service {
+//!     requests: SharedInstrument,
+//!     in_flight: SharedInstrument,
+//!     took: SharedInstrument,
+//! }
+//!
+//! impl Service {
+//!     fn serve(&self, route: &str, request: impl FnOnce()) {
+//!         let _counted = self.in_flight.in_flight(&[]);
+//!         let _timed = self.took.time(TimeUnit::Milliseconds, &[ROUTE.of(route)]);
+//!         request();
+//!         self.requests.add(1, &[ROUTE.of(route)]);
+//!     }
+//! }
+//! ```
+//!
+//! # Recorders of one's own
+//!
 //! An [`Instrument`] is shared by threads, and has a mutex inside. A recorder or a reader is owned by one thread at a time:
 //! neither can be cloned, and two threads can't record with one recorder.
 //!
@@ -157,7 +186,11 @@ mod opening;
 mod raw;
 mod reader;
 mod recorder;
+mod refused;
 mod resource;
+mod scopes;
+mod shards;
+mod shared;
 mod texts;
 mod value;
 
@@ -175,4 +208,7 @@ pub use opening::{Opened, lint, open, open_certified};
 pub use reader::Reader;
 pub use recorder::{Budget, Prepared, Recorder};
 pub use resource::Resource;
+pub use scopes::{InFlight, Timer};
+pub use shards::Ended;
+pub use shared::{Bound, Shared, SharedInstrument};
 pub use value::Value;

@@ -1,5 +1,7 @@
 //! Recordings round some work, which no way out of it leaves out.
 use crate::fault::Refusal;
+#[cfg(doc)]
+use crate::metrics::Instrument;
 use crate::recorder::{Prepared, Recorder};
 use std::time::{Duration, Instant};
 
@@ -18,7 +20,7 @@ pub enum TimeUnit {
 
 impl TimeUnit {
     // As many whole units as a duration has; the greatest number where it has more.
-    fn whole(self, duration: Duration) -> i64 {
+    pub(crate) fn whole(self, duration: Duration) -> i64 {
         let whole = match self {
             TimeUnit::Seconds => u128::from(duration.as_secs()),
             TimeUnit::Milliseconds => duration.as_millis(),
@@ -90,8 +92,8 @@ impl Recorder {
         (done, began.and(ended))
     }
 
-    /// Does some work, and records in a histogram how long it took, in whole units. The work is done whatever is refused; with what it gave
-    /// comes the [`Refusal`], as [`Refusal::ValueRange`] where it took longer than the instrument's range has units.
+    /// Does some work, and records in a histogram how long it took, as [`Recorder::record_duration`] does. The work is done
+    /// whatever is refused; with what it gave comes the [`Refusal`].
     pub fn timed<T>(
         &mut self,
         took: &Prepared,
@@ -100,7 +102,28 @@ impl Recorder {
     ) -> (T, Result<(), Refusal>) {
         let began = Instant::now();
         let done = work(self);
-        let recorded = self.record_prepared(took, unit.whole(began.elapsed()));
+        let recorded = self.record_duration(took, unit, began.elapsed());
         (done, recorded)
+    }
+
+    /// Records a duration in whole units. One above the instrument's range is recorded as the greatest value of the range,
+    /// and [`Instrument::clamped`] counts it.
+    ///
+    /// # Errors
+    ///
+    /// The first [`Refusal`]; nothing is counted then.
+    pub fn record_duration(
+        &mut self,
+        took: &Prepared,
+        unit: TimeUnit,
+        duration: Duration,
+    ) -> Result<(), Refusal> {
+        let on = &took.instrument;
+        let whole = unit.whole(duration);
+        self.record_prepared(took, whole.min(on.greatest()))?;
+        if whole > on.greatest() {
+            on.count_clamped();
+        }
+        Ok(())
     }
 }

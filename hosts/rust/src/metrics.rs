@@ -7,6 +7,7 @@ use crate::raw::{self, Handle};
 use crate::reader::Reader;
 use crate::recorder::Recorder;
 use std::mem::replace;
+use std::sync::atomic::{AtomicU64, Ordering};
 use std::sync::{Arc, Mutex, MutexGuard, PoisonError};
 
 /// The instruments of a run. Cloned, it is the same instruments.
@@ -28,6 +29,8 @@ struct Own {
     number: u32,
     meter: String,
     name: String,
+    greatest: i64,
+    clamped: AtomicU64,
     held: Mutex<Held>,
 }
 
@@ -183,12 +186,15 @@ impl Instrument {
         number: u32,
         meter: String,
         name: String,
+        greatest: i64,
     ) -> Instrument {
         let own = Own {
             run,
             number,
             meter,
             name,
+            greatest,
+            clamped: AtomicU64::new(0),
             held: Mutex::new(held),
         };
         Instrument { own: Arc::new(own) }
@@ -212,6 +218,21 @@ impl Instrument {
     // The number of its run.
     pub(crate) fn run(&self) -> u64 {
         self.own.run
+    }
+
+    /// The greatest value of its range.
+    pub(crate) fn greatest(&self) -> i64 {
+        self.own.greatest
+    }
+
+    /// How many durations above its range were recorded as the greatest value of the range, by [`Recorder::timed`] and
+    /// [`Recorder::record_duration`]. Where these are many, declare a wider range.
+    pub fn clamped(&self) -> u64 {
+        self.own.clamped.load(Ordering::Relaxed)
+    }
+
+    pub(crate) fn count_clamped(&self) {
+        self.own.clamped.fetch_add(1, Ordering::Relaxed);
     }
 
     // Whether both are one instrument.

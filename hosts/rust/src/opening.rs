@@ -288,10 +288,18 @@ fn named(handles: Handles, run: u64) -> Result<Opened, u32> {
         (None, Some(first)) => first.name_of(kind, number as u32),
         (None, None) => Ok(String::new()),
     };
+    let names: Result<Vec<_>, u32> = (0..held.len())
+        .map(|number| Ok([name(METER_NAME, number)?, name(INSTRUMENT_NAME, number)?]))
+        .collect();
     let mut instruments = Vec::new();
-    for (number, held) in held.into_iter().enumerate() {
-        let [meter, own] = [name(METER_NAME, number)?, name(INSTRUMENT_NAME, number)?];
-        instruments.push(Instrument::new(held, run, number as u32, meter, own));
+    for (number, (held, [meter, own])) in held.into_iter().zip(names?).enumerate() {
+        let number = number as u32;
+        // Where there is no recorder, nobody records.
+        let greatest = match recorders.first_mut() {
+            Some(first) => first.greatest_of(number)?,
+            None => i64::MAX,
+        };
+        instruments.push(Instrument::new(held, run, number, meter, own, greatest));
     }
     for (number, recorder) in recorders.iter_mut().enumerate() {
         let own = recorder.name_of(RECORDER_NAME, number as u32)?;

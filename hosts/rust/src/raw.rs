@@ -67,6 +67,13 @@ pub struct Spare {
 
 #[repr(C)]
 #[derive(Clone, Copy, Default)]
+pub struct Range {
+    pub least: i64,
+    pub greatest: i64,
+}
+
+#[repr(C)]
+#[derive(Clone, Copy, Default)]
 pub struct Headroom {
     pub declared: u64,
     pub most: u64,
@@ -300,6 +307,7 @@ unsafe extern "C" {
         room: usize,
         text_length: &mut usize,
     ) -> u32;
+    pub fn wormweekly_range(recorder: &mut Handle, instrument: u32, out: &mut Range) -> u32;
     pub fn wormweekly_warnings(
         recorder: &mut Handle,
         out: *mut u8,

@@ -72,6 +72,11 @@ impl Recorder {
         }
     }
 
+    // What stands in the place of a recorder that is elsewhere for a while.
+    pub(crate) fn nothing() -> Recorder {
+        Recorder::new(Handle::NOTHING, 0, 0)
+    }
+
     pub(crate) fn set_name(&mut self, name: String) {
         self.name = name;
     }
@@ -101,16 +106,27 @@ impl Recorder {
     ///
     /// [`Refusal::Stranger`] where the instrument is of another run.
     pub fn budget(&mut self, instrument: &Instrument) -> Result<Budget, Refusal> {
-        let mut out = raw::Budget::default();
-        let mut held = instrument.lock();
-        // SAFETY: the handles are as the library left them, and this call has them alone.
-        answer(unsafe { raw::wormweekly_budget(&mut held.handle, &mut self.handle, &mut out) })?;
+        let out = self.raw_budget(instrument).map_err(Refusal::of)?;
         Ok(Budget {
             declared: out.declared,
             granted: out.granted,
             spent: out.spent,
             left: out.left,
         })
+    }
+
+    fn raw_budget(&mut self, instrument: &Instrument) -> Result<raw::Budget, u32> {
+        let mut out = raw::Budget::default();
+        let mut held = instrument.lock();
+        // SAFETY: the handles are as the library left them, and this call has them alone.
+        match unsafe { raw::wormweekly_budget(&mut held.handle, &mut self.handle, &mut out) } {
+            0 => Ok(out),
+            code => Err(code),
+        }
+    }
+
+    pub(crate) fn left_code(&mut self, instrument: &Instrument) -> Result<u64, u32> {
+        Ok(self.raw_budget(instrument)?.left)
     }
 
     /// How many recordings the recorder has left on an instrument. Ask for more before there is none: a recording past the
@@ -130,9 +146,14 @@ impl Recorder {
     /// The first of these: [`Refusal::Stranger`] where the instrument is of another run; [`Refusal::Closed`];
     /// [`Refusal::NoSpare`] where more is asked for than is left.
     pub fn ask(&mut self, instrument: &Instrument, amount: u64) -> Result<(), Refusal> {
+        answer(self.ask_code(instrument, amount))
+    }
+
+    // The same by what the library answers. So below.
+    pub(crate) fn ask_code(&mut self, instrument: &Instrument, amount: u64) -> u32 {
         let mut held = instrument.lock();
         // SAFETY: as in `budget`.
-        answer(unsafe { raw::wormweekly_ask(&mut held.handle, &mut self.handle, amount) })
+        unsafe { raw::wormweekly_ask(&mut held.handle, &mut self.handle, amount) }
     }
 
     /// Makes a recording. Its attributes are found before the lock is taken, so that other threads wait for the recording alone.
@@ -147,20 +168,37 @@ impl Recorder {
         attributes: &[(&str, Value<'_>)],
         value: i64,
     ) -> Result<(), Refusal> {
-        let mut own = raw::Prepared { set: [0; 8], value };
-        let code = match self.find(instrument, attributes, &mut own) {
-            0 => self.record_found(instrument, &own),
-            code => code,
-        };
-        match code {
+        match self.record_code(instrument, attributes, value) {
             0 => Ok(()),
             code => Err(self.refused(code, instrument, attributes, value)),
         }
     }
 
+    pub(crate) fn record_code(
+        &mut self,
+        instrument: &Instrument,
+        attributes: &[(&str, Value<'_>)],
+        value: i64,
+    ) -> u32 {
+        let mut own = raw::Prepared { set: [0; 8], value };
+        match self.find(instrument, attributes, &mut own) {
+            0 => self.record_found(instrument, &own),
+            code => code,
+        }
+    }
+
+    pub(crate) fn record_set_code(
+        &mut self,
+        instrument: &Instrument,
+        set: [u16; 8],
+        value: i64,
+    ) -> u32 {
+        self.record_found(instrument, &raw::Prepared { set, value })
+    }
+
     // The refusal of this number of a recording. A call of its own, since few recordings are refused.
     #[cold]
-    fn refused(
+    pub(crate) fn refused(
         &mut self,
         code: u32,
         instrument: &Instrument,
@@ -207,17 +245,29 @@ impl Recorder {
         instrument: &Instrument,
         attributes: &[(&str, Value<'_>)],
     ) -> Result<Prepared, Refusal> {
-        // Any value would do, since the attributes are told of first.
+        match self.set_of(instrument, attributes) {
+            Ok(set) => {
+                let instrument = instrument.clone();
+                let own = raw::Prepared { set, value: 0 };
+                Ok(Prepared { instrument, own })
+            }
+            // Any value would do, since the attributes are told of first.
+            Err(code) => Err(self.refused(code, instrument, attributes, 0)),
+        }
+    }
+
+    pub(crate) fn set_of(
+        &mut self,
+        instrument: &Instrument,
+        attributes: &[(&str, Value<'_>)],
+    ) -> Result<[u16; 8], u32> {
         let mut own = raw::Prepared {
             set: [0; 8],
             value: 0,
         };
         match self.find(instrument, attributes, &mut own) {
-            0 => {
-                let instrument = instrument.clone();
-                Ok(Prepared { instrument, own })
-            }
-            code => Err(self.refused(code, instrument, attributes, 0)),
+            0 => Ok(own.set),
+            code => Err(code),
         }
     }
 
@@ -322,6 +372,16 @@ impl Recorder {
         told(|out, length| unsafe {
             raw::wormweekly_name(handle, kind, number, out.as_mut_ptr(), out.len(), length)
         })
+    }
+
+    // The greatest value of the range of an instrument.
+    pub(crate) fn greatest_of(&mut self, instrument: u32) -> Result<i64, u32> {
+        let mut out = raw::Range::default();
+        // SAFETY: as in `find`.
+        match unsafe { raw::wormweekly_range(&mut self.handle, instrument, &mut out) } {
+            0 => Ok(out.greatest),
+            code => Err(code),
+        }
     }
 
     // The warnings of the plan.

@@ -1,4 +1,6 @@
 //! What a service lives on: budgets, grants, names and runs.
+use std::thread::sleep;
+use std::time::Duration;
 use wormweekly::{
     Budget, Dialect, ExposureFault, Headroom, Key, Limit, Opened, Refusal, Resource, ResourceFault,
     RollFault, Rolled, SettleFault, Spare, TimeUnit, Total, open,
@@ -280,5 +282,33 @@ fn work_is_counted_as_under_way_until_it_ends() -> Result<(), Box<dyn std::error
     let totals = run.metrics.settle(&mut run.recorders)?;
     assert_eq!(totals[0], Total { count: 4, sum: 0 });
     assert_eq!(totals[1].count, 1);
+    Ok(())
+}
+
+// What took longer than the range reaches is recorded as the greatest value, and told.
+#[test]
+fn durations_above_the_range_are_clamped_and_counted() -> Result<(), Box<dyn std::error::Error>> {
+    let catalogue = QUEUE
+        .replace("60000", "5")
+        .replace("amount = 1 }", "amount = 4 }");
+    let mut run = open(&catalogue, CONFIG, 0)?;
+    let took = run.metrics.instrument("took")?;
+    let worker = &mut run.recorders[0];
+    let all = worker.prepare(took, &[])?;
+    worker.record_duration(&all, TimeUnit::Milliseconds, Duration::from_millis(5))?;
+    assert_eq!(took.clamped(), 0);
+    worker.record_duration(&all, TimeUnit::Milliseconds, Duration::from_millis(6))?;
+    worker.record_duration(&all, TimeUnit::Nanoseconds, Duration::MAX)?;
+    let ((), timed) = worker.timed(&all, TimeUnit::Nanoseconds, |_| {
+        sleep(Duration::from_millis(1))
+    });
+    assert_eq!((timed, took.clamped()), (Ok(()), 3));
+    // What is refused is not counted as clamped.
+    let again = worker.record_duration(&all, TimeUnit::Seconds, Duration::MAX);
+    assert_eq!((again, took.clamped()), (Err(Refusal::Budget), 3));
+    assert_eq!(
+        run.metrics.settle(&mut run.recorders)?[1],
+        Total { count: 4, sum: 20 }
+    );
     Ok(())
 }
