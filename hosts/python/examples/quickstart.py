@@ -1,6 +1,9 @@
 """The quick start: a plan is certified, two orders are recorded and one is refused, and what is collected is printed."""
 
-from wormweekly import Metrics, Refusal
+import logging
+import sys
+
+from wormweekly import Metrics
 
 CATALOGUE = """format = 1
 [[meter]]
@@ -20,15 +23,15 @@ CONFIG = """format = 1
 name = 'console'
 """
 
+logging.basicConfig(stream=sys.stdout, format="%(message)s")
+
 metrics = Metrics.open(CATALOGUE, CONFIG, start=0)  # two texts; an OpenFault tells the first fault
-orders, till = metrics.instrument("orders"), metrics.recorder("till")
-till.record(orders, {"country": "de"}, 2)
+orders = metrics.instrument("orders")
+orders.add(2, {"country": "de"})  # in any thread
 french = orders.bind({"country": "fr"})  # looked up once
-till.add(french, 1)
-try:
-    till.record(orders, {"country": "uk"}, 1)
-except Refusal as refusal:
-    print(f"{refusal.name}: {refusal}")  # not counted
+french.add(1)
+orders.add(1, {"country": "uk"})  # not counted: it is logged once, or raised where the run is strict
+print(f"refused: {orders.refused}")
 print(metrics.reader("console").text(orders, 1_000), end="")
 for total in metrics.roll_over():  # and the next run begins, in the same seats
     print(f"settled: {total.sum} in {total.count} recordings")

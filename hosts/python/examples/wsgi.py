@@ -15,7 +15,7 @@ from socketserver import ThreadingMixIn
 from typing import TYPE_CHECKING
 from wsgiref.simple_server import WSGIRequestHandler, WSGIServer, make_server
 
-from wormweekly import Dialect, Metrics, Pool, Reader, Recorder, Refusal
+from wormweekly import Dialect, Metrics, Reader
 
 if TYPE_CHECKING:
     from wsgiref.types import StartResponse, WSGIApplication, WSGIEnvironment
@@ -54,7 +54,7 @@ name = 'prometheus'
 
 
 class Metered:
-    """Measures an application, and answers /metrics itself. Each request has a recorder of its own while it is served."""
+    """Measures an application, and answers /metrics itself. A request is served, whether it is counted or not."""
 
     def __init__(self, application: WSGIApplication, metrics: Metrics) -> None:
         self.application = application
@@ -63,15 +63,13 @@ class Metered:
         self.requests = metrics.instrument("http.requests")
         self.duration = metrics.instrument("http.duration")
         self.in_flight = metrics.instrument("http.in_flight")
-        self.pool = Pool(metrics.recorders)
         self.reader.expose()
 
     def __call__(self, environ: WSGIEnvironment, start_response: StartResponse) -> Iterable[bytes]:
         path = environ["PATH_INFO"]
         if path == "/metrics":
             return self.show(environ, start_response)
-        with self.pool.lend() as recorder:
-            return self.measure(recorder, path, environ, start_response)
+        return self.measure(path, environ, start_response)
 
     def show(self, environ: WSGIEnvironment, start_response: StartResponse) -> Iterable[bytes]:
         dialect = Dialect.accepted(environ.get("HTTP_ACCEPT", ""))
@@ -79,9 +77,7 @@ class Metered:
         start_response("200 OK", [("Content-Type", dialect.content_type), ("Content-Length", str(len(body)))])
         return [body]
 
-    def measure(
-        self, recorder: Recorder, path: str, environ: WSGIEnvironment, start_response: StartResponse
-    ) -> Iterable[bytes]:
+    def measure(self, path: str, environ: WSGIEnvironment, start_response: StartResponse) -> Iterable[bytes]:
         route = path if path in ("/", "/cart") else "other"
         statuses: list[int] = []
 
@@ -89,19 +85,10 @@ class Metered:
             statuses.append(int(status.split()[0]))
             return start_response(status, *rest)  # type: ignore[arg-type]
 
-        timed = self.duration.time(recorder, {"route": route}, refused=tell)
-        with timed, self.in_flight.in_flight(recorder, {}, refused=tell):
+        with self.duration.time({"route": route}), self.in_flight.in_flight():
             body = list(self.application(environ, note))
-        try:
-            recorder.record(self.requests, {"route": route, "status": statuses[-1]}, 1)
-        except Refusal as refusal:
-            tell(refusal)
+        self.requests.add(1, {"route": route, "status": statuses[-1]})
         return body
-
-
-def tell(refusal: Refusal) -> None:
-    """A request is served, whether it is counted or not."""
-    print(f"not counted: {refusal}", file=sys.stderr)
 
 
 def shop(environ: WSGIEnvironment, start_response: StartResponse) -> Iterable[bytes]:

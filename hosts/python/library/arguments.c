@@ -191,6 +191,9 @@ int read_attributes(Run *run, PyObject *mapping, Given *given) {
     PyObject *dict;
     int is_read;
     begin_given(given);
+    if (mapping == NULL) {
+        return 1;
+    }
     if (PyDict_Check(mapping)) {
         return read_dict(run, mapping, given);
     }

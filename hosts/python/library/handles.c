@@ -3,8 +3,8 @@
 
 #include <Python.h>
 #include <errno.h>
-#include <stdatomic.h>
 #include <stdlib.h>
+#include <string.h>
 
 static _Atomic unsigned long forks;
 static pthread_once_t forks_are_counted = PTHREAD_ONCE_INIT;
@@ -17,8 +17,7 @@ int handles_are_whole(const Handles *own) {
     return own->born == atomic_load_explicit(&forks, memory_order_relaxed);
 }
 
-/* Locks, and lets other threads of Python go on as long as that takes. */
-static int lock(pthread_mutex_t *mutex) {
+int handles_lock(pthread_mutex_t *mutex) {
     int answer = pthread_mutex_trylock(mutex);
     if (answer == EBUSY) {
         Py_BEGIN_ALLOW_THREADS
@@ -122,7 +121,11 @@ uint32_t handles_open(Handles *own, const Texts *texts, uint8_t *fault, size_t r
     own->instrument_locks = new_locks(counts->instruments, PTHREAD_MUTEX_DEFAULT);
     own->recorder_locks = new_locks(counts->recorders, PTHREAD_MUTEX_DEFAULT);
     own->reader_locks = new_locks(counts->readers, PTHREAD_MUTEX_ERRORCHECK);
-    return own->instrument_locks && own->recorder_locks && own->reader_locks ? WORMWEEKLY_DONE : WORMWEEKLY_MEMORY;
+    own->spent = calloc(counts->instruments + 1, sizeof *own->spent);
+    own->kept = calloc(counts->instruments * counts->recorders + 1, sizeof *own->kept);
+    return own->instrument_locks && own->recorder_locks && own->reader_locks && own->spent && own->kept
+               ? WORMWEEKLY_DONE
+               : WORMWEEKLY_MEMORY;
 }
 
 void handles_free(Handles *own) {
@@ -133,6 +136,8 @@ void handles_free(Handles *own) {
     free(own->instrument_locks);
     free(own->recorder_locks);
     free(own->reader_locks);
+    free(own->spent);
+    free(own->kept);
 }
 
 /* The end of a run */
@@ -214,6 +219,13 @@ uint32_t handles_roll_over(Handles *own, uint64_t start, wormweekly_total *total
     lock_all(own->recorder_locks, counts.recorders);
     lock_all(own->instrument_locks, counts.instruments);
     answer = roll_over(&own->lists, start, totals);
+    if (answer == WORMWEEKLY_DONE) {
+        own->runs++;
+        for (size_t at = 0; at < counts.instruments; at++) {
+            own->spent[at] = 0;
+        }
+        memset(own->kept, 0, counts.instruments * counts.recorders * sizeof *own->kept);
+    }
     unlock_all(own->instrument_locks, counts.instruments);
     unlock_all(own->recorder_locks, counts.recorders);
     unlock_all(own->reader_locks, counts.readers);
@@ -223,8 +235,8 @@ uint32_t handles_roll_over(Handles *own, uint64_t start, wormweekly_total *total
 /* Recordings */
 
 static wormweekly_instrument *begin(const Work *work, wormweekly_recorder **recorder) {
-    lock(&work->own->recorder_locks[work->recorder]);
-    lock(&work->of->instrument_locks[work->instrument]);
+    handles_lock(&work->own->recorder_locks[work->recorder]);
+    handles_lock(&work->of->instrument_locks[work->instrument]);
     *recorder = &work->own->lists.recorders[work->recorder];
     return &work->of->lists.instruments[work->instrument];
 }
@@ -271,6 +283,9 @@ uint32_t handles_ask(const Work *work, uint64_t amount) {
     wormweekly_recorder *recorder;
     wormweekly_instrument *instrument = begin(work, &recorder);
     uint32_t answer = wormweekly_ask(instrument, recorder, amount);
+    if (answer == WORMWEEKLY_DONE) {
+        work->of->spent[work->instrument] = 0;
+    }
     end(work);
     return answer;
 }
@@ -278,14 +293,14 @@ uint32_t handles_ask(const Work *work, uint64_t amount) {
 /* Recorders and readers alone */
 
 wormweekly_recorder *handles_lend_recorder(Handles *own, size_t recorder) {
-    lock(&own->recorder_locks[recorder]);
+    handles_lock(&own->recorder_locks[recorder]);
     return &own->lists.recorders[recorder];
 }
 
 void handles_take_recorder(Handles *own, size_t recorder) { unlock(&own->recorder_locks[recorder]); }
 
 wormweekly_reader *handles_lend_reader(Handles *own, size_t reader) {
-    return lock(&own->reader_locks[reader]) == EDEADLK ? NULL : &own->lists.readers[reader];
+    return handles_lock(&own->reader_locks[reader]) == EDEADLK ? NULL : &own->lists.readers[reader];
 }
 
 void handles_take_reader(Handles *own, size_t reader) { unlock(&own->reader_locks[reader]); }
@@ -301,7 +316,7 @@ uint32_t handles_prepare(Handles *own, size_t instrument, const Attributes *give
     }
     if (at == own->lists.counts.recorders) {
         at = 0;
-        lock(&own->recorder_locks[at]);
+        handles_lock(&own->recorder_locks[at]);
     }
     answer = wormweekly_prepare(&own->lists.recorders[at], (uint32_t)instrument, given->bytes, given->length,
                                 given->all, given->count, prepared);
@@ -313,15 +328,18 @@ uint32_t handles_prepare(Handles *own, size_t instrument, const Attributes *give
 
 uint32_t handles_grant(Handles *own, size_t instrument, size_t recorder, uint64_t amount) {
     uint32_t answer;
-    lock(&own->instrument_locks[instrument]);
+    handles_lock(&own->instrument_locks[instrument]);
     answer = wormweekly_grant(&own->lists.instruments[instrument], (uint32_t)recorder, amount);
+    if (answer == WORMWEEKLY_DONE) {
+        own->spent[instrument] = 0;
+    }
     unlock(&own->instrument_locks[instrument]);
     return answer;
 }
 
 uint32_t handles_spare(Handles *own, size_t instrument, wormweekly_spare_out *spare) {
     uint32_t answer;
-    lock(&own->instrument_locks[instrument]);
+    handles_lock(&own->instrument_locks[instrument]);
     answer = wormweekly_spare(&own->lists.instruments[instrument], spare);
     unlock(&own->instrument_locks[instrument]);
     return answer;
@@ -329,7 +347,7 @@ uint32_t handles_spare(Handles *own, size_t instrument, wormweekly_spare_out *sp
 
 uint32_t handles_close(Handles *own, size_t instrument) {
     uint32_t answer;
-    lock(&own->instrument_locks[instrument]);
+    handles_lock(&own->instrument_locks[instrument]);
     answer = wormweekly_close(&own->lists.instruments[instrument]);
     unlock(&own->instrument_locks[instrument]);
     return answer;

@@ -8,6 +8,7 @@
 #define HANDLES_H
 
 #include <pthread.h>
+#include <stdatomic.h>
 #include <stddef.h>
 #include <stdint.h>
 
@@ -37,8 +38,13 @@ typedef struct {
 
 typedef struct {
     unsigned long born; /* how often the process was forked before */
+    unsigned long runs; /* how many ended in the place of which this one is */
     Lists lists;
     pthread_mutex_t *instrument_locks, *recorder_locks, *reader_locks;
+    /* of each instrument, the recorders that had no budget left, a bit for each; under its mutex */
+    _Atomic uint64_t *spent;
+    /* of each recorder, how many recordings of each instrument count out what is under way; under its mutex */
+    uint64_t *kept;
 } Handles;
 
 /* Attributes as the library takes them. */
@@ -56,6 +62,24 @@ typedef struct {
     Handles *of;
     size_t instrument;
 } Work;
+
+/* What was counted in by a recorder, while so many runs had ended. */
+typedef struct {
+    size_t recorder;
+    unsigned long run;
+} Place;
+
+/* What any recorder may record: attributes or, where these are null, a set that was prepared, and a value. What is counted in
+   gets its place. */
+typedef struct {
+    const Attributes *given;
+    wormweekly_prepared prepared;
+    int is_counted_in;
+    Place place;
+} Recording;
+
+/* Locks, and lets other threads of Python go on as long as that takes. */
+int handles_lock(pthread_mutex_t *mutex);
 
 /* Opens a run. It is called once, without Python's lock, on what is all zero. */
 uint32_t handles_open(Handles *own, const Texts *texts, uint8_t *fault, size_t room, size_t *length);
@@ -75,6 +99,11 @@ uint32_t handles_add(const Work *work, const wormweekly_prepared *prepared);
 uint32_t handles_add_all(const Work *work, const wormweekly_prepared *list, size_t length, size_t *made);
 uint32_t handles_budget(const Work *work, wormweekly_budget_out *budget);
 uint32_t handles_ask(const Work *work, uint64_t amount);
+
+/* Makes a recording with a recorder that is free and has budget left. Where all with budget are busy, it waits for one of them;
+   where none has budget left, one asks the spare budget. */
+uint32_t handles_record_shared(Handles *own, size_t instrument, Recording *what);
+uint32_t handles_count_out(Handles *own, size_t instrument, const wormweekly_prepared *prepared, const Place *place);
 
 /* Finds a set key, by a recorder that nobody uses, or else the first. */
 uint32_t handles_prepare(Handles *own, size_t instrument, const Attributes *given, wormweekly_prepared *prepared);

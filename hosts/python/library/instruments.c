@@ -28,6 +28,114 @@ static PyObject *bind(Seat *self, PyObject *attributes) {
     return made;
 }
 
+/* Recordings by any recorder, which any thread may make. */
+
+static PyObject *made_of(Run *run, size_t instrument, Recording *what) {
+    uint32_t answer = handles_record_shared(&run->handles, instrument, what);
+    if (answer == WORMWEEKLY_DONE || what->given == NULL) {
+        return done(run, answer);
+    }
+    return refuse_said(run, answer, 0, instrument, what->given, what->prepared.value);
+}
+
+static PyObject *record_given(Seat *self, PyObject *value, PyObject *attributes) {
+    Run *run = self->run;
+    Given given;
+    Recording what = { .given = &given.own };
+    PyObject *made = NULL;
+    if (!is_whole(run) || !read_value(run, value, &what.prepared.value)) {
+        return NULL;
+    }
+    if (read_attributes(run, attributes, &given)) {
+        made = made_of(run, self->number, &what);
+    }
+    free_given(&given);
+    return made;
+}
+
+/* add(value), add(value, attributes) */
+static PyObject *add(Seat *self, PyObject *const *args, Py_ssize_t count) {
+    if (count != 2 && !has_count(self->run, count, 1)) {
+        return NULL;
+    }
+    return settled(self->run, self->number, record_given(self, args[0], count == 2 ? args[1] : NULL));
+}
+
+/* (bound set, value, whether it was clamped) */
+static PyObject *add_clamped(Seat *self, PyObject *const *args, Py_ssize_t count) {
+    Run *run = self->run;
+    Recording what = { .given = NULL };
+    Bound *bound;
+    PyObject *made = NULL;
+    if (!has_count(run, count, 3) || (bound = read_bound(run, args[0])) == NULL) {
+        return NULL;
+    }
+    what.prepared = bound->prepared;
+    if (is_whole(run) && read_value(run, args[1], &what.prepared.value)) {
+        made = made_of(run, self->number, &what);
+    }
+    if (made != NULL && args[2] == Py_True) {
+        self->clamped++;
+    }
+    return settled(run, self->number, made);
+}
+
+static PyObject *count_refused(Seat *self, PyObject *refusal) {
+    PyErr_SetObject((PyObject *)Py_TYPE(refusal), refusal);
+    return settled(self->run, self->number, NULL);
+}
+
+static PyObject *refused(Seat *self, PyObject *unused) {
+    PyObject *counts = PyList_GetItem(self->run->refused, (Py_ssize_t)self->number);
+    (void)unused;
+    return counts == NULL ? NULL : PyDict_Copy(counts);
+}
+
+static PyObject *add_bound(Bound *self, PyObject *value) {
+    Run *run = self->run;
+    Recording what = { .prepared = self->prepared };
+    PyObject *made = NULL;
+    if (is_whole(run) && read_value(run, value, &what.prepared.value)) {
+        made = made_of(run, self->instrument, &what);
+    }
+    return settled(run, self->instrument, made);
+}
+
+/* (number of a recorder, number of the run) where it is counted in, or None */
+static PyObject *count_in(Bound *self, PyObject *unused) {
+    Run *run = self->run;
+    Recording what = { .prepared = self->prepared, .is_counted_in = 1 };
+    PyObject *made;
+    (void)unused;
+    what.prepared.value = 1;
+    made = is_whole(run) ? made_of(run, self->instrument, &what) : NULL;
+    if (made == NULL) {
+        return settled(run, self->instrument, NULL);
+    }
+    Py_DECREF(made);
+    return Py_BuildValue("(nk)", (Py_ssize_t)what.place.recorder, what.place.run);
+}
+
+static PyObject *count_out(Bound *self, PyObject *args) {
+    Run *run = self->run;
+    wormweekly_prepared own = self->prepared;
+    PyObject *made = NULL;
+    Py_ssize_t recorder;
+    Place place = { 0, 0 };
+    if (!PyArg_ParseTuple(args, "nk", &recorder, &place.run)) {
+        return NULL;
+    }
+    if (recorder < 0 || (size_t)recorder >= run->handles.lists.counts.recorders) {
+        return refuse(run, WORMWEEKLY_UNKNOWN);
+    }
+    own.value = -1;
+    place.recorder = (size_t)recorder;
+    if (is_whole(run)) {
+        made = done(run, handles_count_out(&run->handles, self->instrument, &own, &place));
+    }
+    return settled(run, self->instrument, made);
+}
+
 static PyObject *grant(Seat *self, PyObject *const *args, Py_ssize_t count) {
     Run *run = self->run;
     Seat *recorder;
@@ -67,10 +175,29 @@ static PyObject *close_it(Seat *self, PyObject *unused) {
     return is_whole(self->run) ? done(self->run, handles_close(&self->run->handles, self->number)) : NULL;
 }
 
+/* Counts in C, where no other thread comes between. */
+static PyObject *count_clamped(Seat *self, PyObject *unused) {
+    (void)unused;
+    self->clamped++;
+    return Py_NewRef(Py_None);
+}
+
+static PyObject *clamped(Seat *self, PyObject *unused) {
+    (void)unused;
+    return PyLong_FromUnsignedLongLong(self->clamped);
+}
+
 static PyMethodDef methods[] = {
+    { "add", (PyCFunction)(void (*)(void))add, METH_FASTCALL, NULL },
+    { "record", (PyCFunction)(void (*)(void))add, METH_FASTCALL, NULL },
+    { "_refused", (PyCFunction)refused, METH_NOARGS, NULL },
+    { "_add_clamped", (PyCFunction)(void (*)(void))add_clamped, METH_FASTCALL, NULL },
+    { "_count_refused", (PyCFunction)count_refused, METH_O, NULL },
     { "bind", (PyCFunction)bind, METH_O, NULL },
     { "grant", (PyCFunction)(void (*)(void))grant, METH_FASTCALL, NULL },
     { "_spare", (PyCFunction)spare, METH_NOARGS, NULL },
+    { "_count_clamped", (PyCFunction)count_clamped, METH_NOARGS, NULL },
+    { "_clamped", (PyCFunction)clamped, METH_NOARGS, NULL },
     { "close", (PyCFunction)close_it, METH_NOARGS, NULL },
     { NULL, NULL, 0, NULL },
 };
@@ -82,6 +209,16 @@ static PyType_Slot slots[] = {
 PyType_Spec instrument_spec = { "wormweekly._library.Instrument", sizeof(Seat), 0,
                                 Py_TPFLAGS_DEFAULT | Py_TPFLAGS_BASETYPE, slots };
 
-static PyType_Slot bound_slots[] = { { Py_tp_new, no_new }, { Py_tp_dealloc, seat_free }, { 0, NULL } };
+static PyMethodDef bound_methods[] = {
+    { "add", (PyCFunction)add_bound, METH_O, NULL },
+    { "record", (PyCFunction)add_bound, METH_O, NULL },
+    { "_count_in", (PyCFunction)count_in, METH_NOARGS, NULL },
+    { "_count_out", (PyCFunction)count_out, METH_VARARGS, NULL },
+    { NULL, NULL, 0, NULL },
+};
+
+static PyType_Slot bound_slots[] = {
+    { Py_tp_new, no_new }, { Py_tp_dealloc, seat_free }, { Py_tp_methods, bound_methods }, { 0, NULL }
+};
 
 PyType_Spec bound_spec = { "wormweekly._library.Bound", sizeof(Bound), 0, Py_TPFLAGS_DEFAULT, bound_slots };

@@ -19,22 +19,29 @@ enum {
 
 typedef struct {
     PyTypeObject *run, *instrument, *recorder, *reader, *bound;
-    PyObject *refusal; /* makes an exception of a number, and of what is told beside it */
+    PyObject *refusal;  /* makes an exception of a number, and of what is told beside it */
+    PyObject *refusals; /* the class of all of them */
 } State;
 
+/* What instruments are refused is raised where the run is strict; else it is counted, by instrument and by name, and each is
+   told once. */
 typedef struct {
     PyObject_HEAD
     PyObject *module;
     State *state;
     Handles handles;
+    int is_strict;
+    PyObject *tell, *refused;
 } Run;
 
-/* An instrument, a recorder or a reader of a run. The owner is the thread of a recorder, 0 before there is one. */
+/* An instrument, a recorder or a reader of a run. The owner is the thread of a recorder, 0 before there is one; what is
+   clamped are durations on an instrument. */
 typedef struct {
     PyObject_HEAD
     Run *run;
     size_t number;
     unsigned long owner;
+    unsigned long long clamped;
 } Seat;
 
 typedef struct {
@@ -55,6 +62,10 @@ PyObject *refuse_said(Run *run, uint32_t answer, size_t recorder, size_t instrum
                       int64_t value);
 int is_whole(Run *run);
 
+/* A recording on an instrument was answered so, NULL where it was refused: that is counted, and raised where the run is
+   strict. */
+PyObject *settled(Run *run, size_t instrument, PyObject *answer);
+
 /* Arguments: each answers 0 or NULL with an exception where it is not what is wanted. */
 int has_count(Run *run, Py_ssize_t given, Py_ssize_t wanted);
 int read_value(Run *run, PyObject *given, int64_t *value);
@@ -73,6 +84,7 @@ typedef struct {
     size_t room;
 } Given;
 
+/* Where there is no mapping, there are none. */
 int read_attributes(Run *run, PyObject *mapping, Given *given);
 void free_given(Given *given);
 

@@ -30,6 +30,7 @@ static int fill(PyObject *module) {
     State *state = PyModule_GetState(module);
     PyObject *refusals = PyImport_ImportModule("wormweekly._refusals");
     state->refusal = refusals == NULL ? NULL : PyObject_GetAttrString(refusals, "refusal_of");
+    state->refusals = refusals == NULL ? NULL : PyObject_GetAttrString(refusals, "Refusal");
     Py_XDECREF(refusals);
     state->run = new_type(module, &run_spec);
     state->instrument = new_type(module, &instrument_spec);
@@ -42,6 +43,7 @@ static int fill(PyObject *module) {
 static int visit_all(PyObject *module, visitproc visit, void *arg) {
     State *state = PyModule_GetState(module);
     Py_VISIT(state->refusal);
+    Py_VISIT(state->refusals);
     Py_VISIT(state->run);
     Py_VISIT(state->instrument);
     Py_VISIT(state->recorder);
@@ -53,6 +55,7 @@ static int visit_all(PyObject *module, visitproc visit, void *arg) {
 static int clear(PyObject *module) {
     State *state = PyModule_GetState(module);
     Py_CLEAR(state->refusal);
+    Py_CLEAR(state->refusals);
     Py_CLEAR(state->run);
     Py_CLEAR(state->instrument);
     Py_CLEAR(state->recorder);

@@ -94,6 +94,57 @@ PyObject *done(Run *run, uint32_t answer) {
     return answer == WORMWEEKLY_DONE ? Py_NewRef(Py_None) : refuse(run, answer);
 }
 
+/* One more of this name on an instrument: whether it is the first. No other thread comes between what is read and what is
+   written. */
+static int count_refusal(Run *run, size_t instrument, PyObject *refusal) {
+    PyObject *counts = PyList_GetItem(run->refused, (Py_ssize_t)instrument);
+    PyObject *name = PyObject_GetAttrString(refusal, "name");
+    PyObject *before, *after = NULL;
+    int is_first = 0;
+    if (counts != NULL && name != NULL) {
+        before = PyDict_GetItemWithError(counts, name);
+        is_first = before == NULL;
+        after = PyLong_FromLongLong(is_first ? 1 : PyLong_AsLongLong(before) + 1);
+    }
+    if (after == NULL || PyDict_SetItem(counts, name, after) < 0) {
+        PyErr_Clear();
+    }
+    Py_XDECREF(name);
+    Py_XDECREF(after);
+    return is_first;
+}
+
+/* What tells it may fail, but that is no fault of who records. */
+static void tell(Run *run, size_t instrument, PyObject *refusal) {
+    PyObject *told = PyObject_CallFunction(run->tell, "nO", (Py_ssize_t)instrument, refusal);
+    if (told == NULL) {
+        PyErr_WriteUnraisable(run->tell);
+    }
+    Py_XDECREF(told);
+}
+
+PyObject *settled(Run *run, size_t instrument, PyObject *answer) {
+    PyObject *kind, *refusal, *trace;
+    int is_first;
+    if (answer != NULL || !PyErr_ExceptionMatches(run->state->refusals)) {
+        return answer;
+    }
+    PyErr_Fetch(&kind, &refusal, &trace);
+    PyErr_NormalizeException(&kind, &refusal, &trace);
+    is_first = count_refusal(run, instrument, refusal);
+    if (run->is_strict) {
+        PyErr_Restore(kind, refusal, trace);
+        return NULL;
+    }
+    if (is_first) {
+        tell(run, instrument, refusal);
+    }
+    Py_XDECREF(kind);
+    Py_XDECREF(refusal);
+    Py_XDECREF(trace);
+    return Py_NewRef(Py_None);
+}
+
 int is_whole(Run *run) {
     if (!handles_are_whole(&run->handles)) {
         refuse(run, FORKED);

@@ -27,22 +27,37 @@ static Run *empty_run(PyTypeObject *type) {
     return run;
 }
 
-/* Run(catalogue, config, certificate or None, start) */
+/* A dict for the refusals of each instrument. */
+static int has_counts(Run *run) {
+    run->refused = PyList_New(0);
+    for (size_t at = 0; run->refused != NULL && at < run->handles.lists.counts.instruments; at++) {
+        PyObject *own = PyDict_New();
+        if (own == NULL || PyList_Append(run->refused, own) < 0) {
+            Py_CLEAR(run->refused);
+        }
+        Py_XDECREF(own);
+    }
+    return run->refused != NULL;
+}
+
+/* Run(catalogue, config, certificate or None, start, is strict, what tells a refusal) */
 static PyObject *run_new(PyTypeObject *type, PyObject *args, PyObject *keywords) {
-    PyObject *catalogue, *config, *certificate, *start, *made = NULL;
+    PyObject *catalogue, *config, *certificate, *start, *tell, *made = NULL;
     Texts texts = { 0 };
     Run *run = empty_run(type);
     (void)keywords;
     if (run == NULL) {
         return NULL;
     }
-    if (PyArg_ParseTuple(args, "OOOO", &catalogue, &config, &certificate, &start) &&
+    if (PyArg_ParseTuple(args, "OOOOpO", &catalogue, &config, &certificate, &start, &run->is_strict, &tell) &&
         read_text(run, catalogue, &texts.catalogue) && read_text(run, config, &texts.config) &&
         (certificate == Py_None || read_text(run, certificate, &texts.certificate)) &&
         read_unsigned(run, start, &texts.start, WRONG_CLOCK)) {
+        run->tell = Py_NewRef(tell);
         made = opened(run, &texts);
     }
-    if (made == NULL) {
+    if (made == NULL || !has_counts(run)) {
+        Py_XDECREF(made);
         Py_DECREF(run);
         return NULL;
     }
@@ -94,6 +109,8 @@ static void run_free(Run *run) {
     PyTypeObject *type = Py_TYPE(run);
     handles_free(&run->handles);
     Py_XDECREF(run->module);
+    Py_XDECREF(run->tell);
+    Py_XDECREF(run->refused);
     ((freefunc)PyType_GetSlot(type, Py_tp_free))(run);
     Py_DECREF(type);
 }
@@ -137,6 +154,22 @@ static PyObject *name(Run *self, PyObject *args) {
     }
     return lists->counts.readers > 0 ? ask_text(self, reader_name_of, &lists->readers[0], kind, number)
                                      : PyUnicode_FromString("");
+}
+
+/* (least, greatest) of an instrument; all numbers where nobody records. The run is only just opened. */
+static PyObject *range(Run *self, PyObject *args) {
+    wormweekly_range_out out = { INT64_MIN, INT64_MAX };
+    uint32_t answer = WORMWEEKLY_DONE;
+    unsigned int number;
+    if (!PyArg_ParseTuple(args, "I", &number) || !is_whole(self)) {
+        return NULL;
+    }
+    if (self->handles.lists.counts.recorders > 0) {
+        answer = wormweekly_range(handles_lend_recorder(&self->handles, 0), number, &out);
+        handles_take_recorder(&self->handles, 0);
+    }
+    return answer == WORMWEEKLY_DONE ? Py_BuildValue("(LL)", (long long)out.least, (long long)out.greatest)
+                                     : refuse(self, answer);
 }
 
 static PyObject *warnings(Run *self, PyObject *unused) {
@@ -240,6 +273,7 @@ static PyMethodDef methods[] = {
     { "lint", (PyCFunction)lint, METH_VARARGS | METH_CLASS, NULL },
     { "counts", (PyCFunction)counts, METH_NOARGS, NULL },
     { "name", (PyCFunction)name, METH_VARARGS, NULL },
+    { "range", (PyCFunction)range, METH_VARARGS, NULL },
     { "warnings", (PyCFunction)warnings, METH_NOARGS, NULL },
     { "instrument", (PyCFunction)instrument, METH_VARARGS, NULL },
     { "recorder", (PyCFunction)recorder, METH_VARARGS, NULL },

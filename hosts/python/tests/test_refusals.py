@@ -154,8 +154,9 @@ class Refusals(unittest.TestCase):
         for name in (12345, KeyError("no name")):
             with self.subTest(name=name):
                 self.refused(TypeRefusal, "WrongType", self.first.record, self.requests, HOME, Nameless(name)())
+        interrupting: Any = Nameless(KeyboardInterrupt())()
         with self.assertRaises(KeyboardInterrupt):
-            self.first.record(self.requests, HOME, Nameless(KeyboardInterrupt())())  # type: ignore[arg-type]
+            self.first.record(self.requests, HOME, interrupting)
         self.assertEqual(self.metrics.settle()[0].count, 0)
 
     def test_budget(self) -> None:
@@ -248,7 +249,8 @@ class Refusals(unittest.TestCase):
                 Metrics.open(catalogue, config)
         with self.assertRaisesRegex(OpenFault, "^certificate: the tables are not those"):
             Metrics.open(CATALOGUE, CONFIG, certificate="format = 9\n")
-        for ask in (Metrics.open, wormweekly.lint):
+        asks: list[Any] = [Metrics.open, wormweekly.lint]
+        for ask in asks:
             with self.assertRaisesRegex(OpenFault, "^catalogue:1:1: catalogue format 3 is not supported"):
                 ask("format = 3\n", CONFIG)
 

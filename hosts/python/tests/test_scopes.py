@@ -4,7 +4,7 @@ import time
 import unittest
 
 from tests.plans import opened
-from wormweekly import AttributeRefusal, BudgetRefusal, Buckets, RangeRefusal, Refusal, Sum
+from wormweekly import AttributeRefusal, BudgetRefusal, Buckets, Refusal, Sum
 
 
 class Scopes(unittest.TestCase):
@@ -15,24 +15,33 @@ class Scopes(unittest.TestCase):
 
     def test_a_block_is_timed(self) -> None:
         duration = self.metrics.instrument("duration")
-        with duration.time(self.first, {"route": "/"}):
+        with self.first.time(duration, {"route": "/"}):
             time.sleep(0.02)
         value = self.reader.collect(duration).streams[0].points[0].value
         assert isinstance(value, Buckets)
         self.assertEqual(value.count, 1)
         self.assertTrue(20 <= value.least < 60_000)
 
-    def test_a_unit(self) -> None:
+    def test_a_block_above_the_range_is_clamped_and_counted(self) -> None:
         duration = self.metrics.instrument("duration")
-        timer = duration.time(self.first, {"route": "/"}, unit=1)
-        with self.assertRaises(RangeRefusal), timer:
+        with self.first.time(duration, {"route": "/"}):
+            pass
+        self.assertEqual(duration.clamped, 0)
+        with self.first.time(duration, {"route": "/"}, unit=1) as timer:
             time.sleep(0.001)
-        assert timer.refusal is not None
-        self.assertEqual(timer.refusal.name, "ValueRange")
+        self.assertIsNone(timer.refusal)
+        self.assertEqual(duration.clamped, 1)
+        value = self.reader.collect(duration).streams[0].points[0].value
+        assert isinstance(value, Buckets)
+        self.assertEqual((value.count, value.greatest), (2, 60_000))
+        duration.close()
+        with self.first.time(duration, {"route": "/"}, unit=1, refused=lambda refusal: None):
+            time.sleep(0.001)
+        self.assertEqual(duration.clamped, 1)
 
     def test_a_block_is_counted_in_and_out(self) -> None:
         in_flight = self.metrics.instrument("in_flight")
-        with in_flight.in_flight(self.first, {}), in_flight.in_flight(self.first, {}):
+        with self.first.in_flight(in_flight, {}), self.first.in_flight(in_flight, {}):
             self.assertEqual(self.reader.collect(in_flight).streams[0].points[0].value, Sum(2))
         self.assertEqual(self.reader.collect(in_flight).streams[0].points[0].value, Sum(0))
 
@@ -40,14 +49,14 @@ class Scopes(unittest.TestCase):
         in_flight = self.metrics.instrument("in_flight")
         for _ in range(self.first.budget(in_flight).left - 3):
             self.first.record(in_flight, {}, 0)
-        with in_flight.in_flight(self.first, {}):
-            with self.assertRaises(BudgetRefusal), in_flight.in_flight(self.first, {}):
+        with self.first.in_flight(in_flight, {}):
+            with self.assertRaises(BudgetRefusal), self.first.in_flight(in_flight, {}):
                 self.fail("it was counted in")
         self.assertEqual(self.reader.collect(in_flight).streams[0].points[0].value, Sum(0))
 
     def test_what_failed_in_the_block_is_told(self) -> None:
         duration = self.metrics.instrument("duration")
-        timer = duration.time(self.first, {"route": "/"})
+        timer = self.first.time(duration, {"route": "/"})
         with self.assertRaises(ZeroDivisionError), timer:
             duration.close()
             raise ZeroDivisionError
@@ -57,8 +66,8 @@ class Scopes(unittest.TestCase):
     def test_a_refusal_is_handled(self) -> None:
         refusals: list[Refusal] = []
         duration, in_flight = self.metrics.instrument("duration"), self.metrics.instrument("in_flight")
-        timer = duration.time(self.first, {"route": "/"}, refused=refusals.append)
-        counted = in_flight.in_flight(self.first, {}, refused=refusals.append)
+        timer = self.first.time(duration, {"route": "/"}, refused=refusals.append)
+        counted = self.first.in_flight(in_flight, {}, refused=refusals.append)
         in_flight.close()
         with timer, counted:
             duration.close()
@@ -67,4 +76,4 @@ class Scopes(unittest.TestCase):
     def test_attributes_are_told_before_the_block(self) -> None:
         duration = self.metrics.instrument("duration")
         with self.assertRaises(AttributeRefusal):
-            duration.time(self.first, {"route": "/admin"})
+            self.first.time(duration, {"route": "/admin"})

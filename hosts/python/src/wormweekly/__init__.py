@@ -6,17 +6,20 @@ instruments, with a `Recorder` for each recorder and a `Reader` for each reader.
 
     metrics = wormweekly.Metrics.open(catalogue, config)
     orders = metrics.instrument("orders")
-    till = metrics.recorder("till")
-    till.record(orders, {"country": "de"}, 2)
+    orders.add(2, {"country": "de"})
     german = orders.bind({"country": "de"})
-    till.add(german, 1)
+    german.add(1)
     print(metrics.reader("console").text(orders))
     print(metrics.settle())
 
-Instruments and readers are shared by threads. A recorder belongs to one thread at a time: to the first one that records
-with it, until another calls `take_over`; a `Pool` lends them to threads that come and go. What is not counted is told
-by a `Refusal`, with the reason as its `name` and in words with the key and the value. `lint` tells what looks like a
-mistake in a catalogue and a config. After a fork, a run is refused in the child.
+Any thread records on an instrument. The recorders that the catalogue declares are its shards: a recording takes one that is
+free, goes on to the next where a budget is spent, then asks the spare budget, and only then is it refused. What is refused
+is counted by `Instrument.refused` and logged once for each reason, by the logger `wormweekly`; with `strict=True` it is
+raised as a `Refusal`, with the reason as its `name` and in words with the key and the value.
+
+A thread that wants a recorder of its own takes one from `Metrics.recorders`. It belongs to one thread at a time: to the first one that
+records with it, until another calls `take_over`; a `Pool` lends them to threads that come and go. `lint` tells what looks
+like a mistake in a catalogue and a config. After a fork, a run is refused in the child.
 """
 
 from wormweekly._batches import Batch, Buckets, Kind, Last, Point, Stream, Sum, Value
@@ -52,7 +55,7 @@ from wormweekly._refusals import (
     ThreadRefusal,
     TypeRefusal,
 )
-from wormweekly._scopes import InFlight, Timer
+from wormweekly._scopes import InFlight, RecorderInFlight, RecorderTimer, Timer
 
 __version__ = "0.4.0"
 
@@ -81,6 +84,8 @@ __all__ = [
     "RangeRefusal",
     "Reader",
     "Recorder",
+    "RecorderInFlight",
+    "RecorderTimer",
     "Refusal",
     "ResourceRefusal",
     "SettleRefusal",

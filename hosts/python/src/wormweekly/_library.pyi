@@ -1,5 +1,7 @@
-from collections.abc import Mapping
+from collections.abc import Callable, Mapping
 from typing import TypeVar
+
+from wormweekly._refusals import Refusal
 
 _I = TypeVar("_I", bound=Instrument)
 _R = TypeVar("_R", bound=Recorder)
@@ -10,14 +12,31 @@ _Stream = tuple[tuple[str, str, str, str, str, str], int, int, bool, tuple[int, 
 _Total = tuple[int, bool, int, int]
 _Batch = tuple[int, int, int, tuple[_Stream, ...], str]
 
-class Bound: ...
+class Bound:
+    """A set of attributes that was looked up once."""
+
+    def add(self, value: int, /) -> None:
+        """Adds to a counter or an up-down counter. Any thread may."""
+    def record(self, value: int, /) -> None:
+        """Records a value of a histogram or a gauge. Any thread may."""
+    def _count_in(self) -> tuple[int, int] | None: ...
+    def _count_out(self, recorder: int, run: int, /) -> None: ...
 
 class Instrument:
+    def add(self, value: int, attributes: _Attributes = ..., /) -> None:
+        """Adds to a counter or an up-down counter. Any thread may."""
+    def record(self, value: int, attributes: _Attributes = ..., /) -> None:
+        """Records a value of a histogram or a gauge. Any thread may."""
+    def _refused(self) -> dict[str, int]: ...
+    def _add_clamped(self, bound: Bound, value: int, is_clamped: bool, /) -> None: ...
+    def _count_refused(self, refusal: Refusal, /) -> None: ...
     def bind(self, attributes: _Attributes, /) -> Bound:
-        """Finds a set of attributes once, for recordings by `Recorder.add`."""
+        """Finds a set of attributes once, for recordings by `Bound.add`, or by `Recorder.add`."""
     def grant(self, recorder: Recorder, amount: int, /) -> None:
         """Grants a recorder so many recordings beside its budget, of what is left of the spare budget."""
     def _spare(self) -> tuple[int, int, int]: ...
+    def _count_clamped(self) -> None: ...
+    def _clamped(self) -> int: ...
     def close(self) -> None:
         """Ends the recordings. The instrument is collected and settled as before."""
 
@@ -48,11 +67,21 @@ class Reader:
     def _last(self) -> _Batch | None: ...
 
 class Run:
-    def __new__(cls, catalogue: str, config: str, certificate: str | None, start: int, /) -> Run: ...
+    def __new__(
+        cls,
+        catalogue: str,
+        config: str,
+        certificate: str | None,
+        start: int,
+        is_strict: bool,
+        tell: Callable[[int, Refusal], object],
+        /,
+    ) -> Run: ...
     @classmethod
     def lint(cls, catalogue: str, config: str, /) -> str: ...
     def counts(self) -> tuple[int, int, int]: ...
     def name(self, kind: int, number: int, /) -> str: ...
+    def range(self, number: int, /) -> tuple[int, int]: ...
     def warnings(self) -> str: ...
     def instrument(self, kind: type[_I], number: int, /) -> _I: ...
     def recorder(self, kind: type[_R], number: int, /) -> _R: ...

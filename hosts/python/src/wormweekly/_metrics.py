@@ -10,9 +10,11 @@ from enum import IntEnum
 from typing import TypeVar
 
 from wormweekly import _library
+from wormweekly._library import Bound
 from wormweekly._batches import Batch, Value, batch_of
 
-from wormweekly._scopes import Handler, InFlight, Timer
+from wormweekly._refusals import Refusal, Teller
+from wormweekly._scopes import Handler, InFlight, RecorderInFlight, RecorderTimer, Timer
 
 Attributes = Mapping[str, Value]
 
@@ -78,12 +80,17 @@ class Spare:
 
 
 class Instrument(_library.Instrument):
-    """An instrument. Threads share it."""
+    """An instrument, on which any thread records.
 
-    __slots__ = ("_meter", "_name", "_number")
+    A recording takes a recorder that no other thread is using. One whose budget is spent hands on to the next, and the
+    last one asks the spare budget; only then is a recording refused. What is refused, for whatever reason, changes nothing
+    but `refused`, and is logged once for each reason; a run that was opened with `strict=True` raises it."""
+
+    __slots__ = ("_greatest", "_meter", "_name", "_number")
     _name: str
     _meter: str
     _number: int
+    _greatest: int
 
     @property
     def name(self) -> str:
@@ -104,24 +111,45 @@ class Instrument(_library.Instrument):
         """What may be granted beside the budgets."""
         return Spare(*self._spare())
 
-    def time(
-        self, recorder: Recorder, attributes: Attributes, unit: int = 1_000_000, refused: Handler = None
-    ) -> Timer:
-        """A `with` that records how long its block took, in units of so many nanoseconds: milliseconds, if nothing else
-        is said. The attributes are looked up before the block. A later refusal is raised, or given to `refused`."""
-        return Timer(recorder, self.bind(attributes), unit, refused)
+    @property
+    def clamped(self) -> int:
+        """How many durations above its range `time` recorded as the greatest value of the range. Where these are many,
+        declare a wider range."""
+        return self._clamped()
 
-    def in_flight(self, recorder: Recorder, attributes: Attributes, refused: Handler = None) -> InFlight:
-        """A `with` that counts its block in and out, on an up-down counter, if the recorder has a recording left for each.
-        The attributes are looked up before it. A later refusal is raised, or given to `refused`."""
-        return InFlight(recorder, self, self.bind(attributes), refused)
+    @property
+    def refused(self) -> dict[str, int]:
+        """How often recordings on it were refused, by the refusal's name."""
+        return self._refused()
+
+    def time(self, attributes: Attributes | None = None, unit: int = 1_000_000) -> Timer:
+        """A `with` that records how long its block took, in units of so many nanoseconds: milliseconds, if nothing else
+        is said. What is above the range is recorded as its greatest value, and `clamped` counts it. The attributes are
+        looked up before the block."""
+        return Timer(self, self._bound(attributes), unit)
+
+    def in_flight(self, attributes: Attributes | None = None) -> InFlight:
+        """A `with` that counts its block in and out, on an up-down counter. What could not be counted out is not counted
+        in: where fewer than two recordings are left for it, beside those that count out what is under way, it is
+        refused. The attributes are looked up before the block."""
+        return InFlight(self._bound(attributes))
+
+    def _took(self, bound: Bound, took: int) -> None:
+        self._add_clamped(bound, min(took, self._greatest), took > self._greatest)
+
+    def _bound(self, attributes: Attributes | None) -> Bound | None:
+        try:
+            return self.bind(attributes or {})
+        except Refusal as refusal:
+            self._count_refused(refusal)
+            return None
 
     def __repr__(self) -> str:
         return f"<wormweekly.Instrument {self._number} {self._meter}/{self._name}>"
 
 
 class Recorder(_library.Recorder):
-    """The seat of a recorder. It is the first thread's that records with it, until another calls `take_over`.
+    """The seat of a recorder, for a thread that wants its own: `Instrument.add` needs none. It is the first thread's that records with it, until another calls `take_over`.
 
     `under_way` is how many blocks each instrument, by its number, has counted in and not out again."""
 
@@ -139,6 +167,16 @@ class Recorder(_library.Recorder):
     def number(self) -> int:
         """Its number in the catalogue, from 0."""
         return self._number
+
+    def time(
+        self, instrument: Instrument, attributes: Attributes, unit: int = 1_000_000, refused: Handler = None
+    ) -> RecorderTimer:
+        """The same as `Instrument.time`, by this recorder. A refusal after the block is raised, or given to `refused`."""
+        return RecorderTimer(self, instrument, instrument.bind(attributes), unit, refused)
+
+    def in_flight(self, instrument: Instrument, attributes: Attributes, refused: Handler = None) -> RecorderInFlight:
+        """The same as `Instrument.in_flight`, by this recorder. A refusal is raised, or given to `refused`."""
+        return RecorderInFlight(self, instrument, instrument.bind(attributes), refused)
 
     def budget(self, instrument: Instrument) -> Budget:
         """What it may record on an instrument. Any thread may ask."""
@@ -213,15 +251,24 @@ class Metrics:
 
     @classmethod
     def open(
-        cls, catalogue: str, config: str, *, certificate: str | None = None, start: int | None = None
+        cls,
+        catalogue: str,
+        config: str,
+        *,
+        certificate: str | None = None,
+        start: int | None = None,
+        strict: bool = False,
     ) -> Metrics:
         """Opens a run of a catalogue and a config (TOML), since a time in nanoseconds, or now. Where no certificate is
-        given, the library makes one; it is checked, whoever made it. Raises an `OpenFault` with the first fault."""
-        run = _library.Run(catalogue, config, certificate, time.time_ns() if start is None else start)
+        given, the library makes one; it is checked, whoever made it. Raises an `OpenFault` with the first fault. A strict
+        run raises each refusal of a recording; else these are counted, and logged once for each reason."""
+        teller = Teller()
+        run = _library.Run(catalogue, config, certificate, time.time_ns() if start is None else start, strict, teller)
         instruments, recorders, readers = map(range, run.counts())
         self = cls()
         self._run = run
         self.instruments = tuple(_instrument(run, number) for number in instruments)
+        teller.names += (one.name for one in self.instruments)
         self.recorders = tuple(_recorder(run, number) for number in recorders)
         self.readers = tuple(_reader(run, number) for number in readers)
         self.warnings = run.warnings()
@@ -281,6 +328,7 @@ def _instrument(run: _library.Run, number: int) -> Instrument:
     made._number = number
     made._name = run.name(_INSTRUMENT_NAME, number)
     made._meter = run.name(_METER_NAME, number)
+    made._greatest = run.range(number)[1]
     return made
 
 

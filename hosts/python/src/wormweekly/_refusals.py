@@ -2,7 +2,10 @@
 
 from __future__ import annotations
 
+import logging
 from typing import ClassVar
+
+_LOGGER = logging.getLogger("wormweekly")
 
 
 class Refusal(Exception):
@@ -144,6 +147,17 @@ _FAMILIES = (
     ClockRefusal,
 )
 _BY_ANSWER = {answer: (family, *words) for family in _FAMILIES for answer, words in family.names.items()}
+
+
+class Teller:
+    """Tells by `logging`, as the logger `wormweekly`, why an instrument of a number does not record."""
+
+    def __init__(self) -> None:
+        self.names: list[str] = []
+
+    def __call__(self, number: int, refusal: Refusal) -> None:
+        name = self.names[number] if number < len(self.names) else f"number {number}"
+        _LOGGER.warning("instrument %r does not record (%s, told once): %s", name, refusal.name, refusal)
 
 
 def refusal_of(answer: int, told: str | int | None) -> Refusal:
