@@ -6,12 +6,15 @@
 //
 //	metrics, err := wormweekly.Open(catalogue, config)
 //	orders, err := metrics.Instrument("orders")
-//	till := metrics.Recorders[0]
-//	err = till.Record(orders, 2, wormweekly.String("country", "de"))
+//	orders.Add(2, wormweekly.String("country", "de"))
 //	german, err := orders.Bind(wormweekly.String("country", "de"))
-//	err = till.Add(german, 1)
+//	german.Add(1)
 //
-// Instruments and readers are shared by goroutines. A recorder is for one goroutine at a time: ErrInUse tells another
-// one that meets it; a Pool lends them to goroutines that come and go. What is not counted is told by an error that
-// wraps a Refusal, as ErrBudget. Handles are freed by the garbage collector.
+// Any goroutine records on an instrument. The recorders that the catalogue declares are its shards: a recording takes one that
+// is free, goes on to the next where a budget is spent, then asks the spare budget, and only then is it refused. What is refused
+// is counted by Instrument.Refused and told once for each reason to what Metrics.OnRefusal is given; TryAdd answers an error that
+// wraps a Refusal, as ErrBudget.
+//
+// A goroutine that wants a recorder of its own takes one from Metrics.Recorders. It is for one at a time: ErrInUse tells another
+// one that meets it; a Pool lends them to goroutines that come and go. Handles are freed by the garbage collector.
 package wormweekly

@@ -35,18 +35,17 @@ func check(err error) {
 func Example() {
 	metrics, err := wormweekly.Open(catalogue, config) // two texts; ErrFault tells the first fault
 	check(err)
-	orders, till := metrics.Instruments[0], metrics.Recorders[0]
-	check(till.Record(orders, 2, wormweekly.String("country", "de")))
+	orders := metrics.Instruments[0]
+	orders.Add(2, wormweekly.String("country", "de"))              // in any goroutine
 	german, err := orders.Bind(wormweekly.String("country", "de")) // looked up once
 	check(err)
-	check(till.Add(german, 1))
-	check(till.AddAll([]wormweekly.Item{{Bound: german, Value: 1}, {Bound: german, Value: 2}})) // one call into C
-	err = till.Record(orders, 1, wormweekly.String("country", "uk"))
-	fmt.Println(errors.Is(err, wormweekly.ErrAttributes), err) // not counted
-	totals, err := metrics.RollOver(time.Now())                // and the next run begins, in the same seats
+	german.Add(1)
+	err = orders.TryAdd(1, wormweekly.String("country", "uk"))
+	fmt.Println(errors.Is(err, wormweekly.ErrAttributes), orders.Refused()) // not counted
+	totals, err := metrics.RollOver(time.Now())                             // and the next run begins, in the same seats
 	check(err)
 	fmt.Println(totals[0].Sum, "in", totals[0].Count, "recordings")
 	// Output:
-	// true wormweekly: a key does not declare its value: orders: key "country" has no value "uk"
-	// 6 in 4 recordings
+	// true map[UnknownValue:1]
+	// 3 in 2 recordings
 }

@@ -47,6 +47,7 @@ static listed record_list(uint8_t *instrument, uint8_t *recorder, const wormweek
 import "C"
 
 import (
+	"math"
 	"runtime"
 	"unsafe"
 )
@@ -59,6 +60,7 @@ const (
 	answerBudget            = 9
 	answerMemory            = 11
 	answerStranger          = 12
+	answerNoSpare           = 14
 	answerTooShort          = 102
 	answerFault             = 103
 	answerUnknown           = 106
@@ -396,6 +398,15 @@ func nameByReader(own *handles, kind, number int) string {
 		return C.wormweekly_reader_name(own.reader(0), C.uint32_t(kind), C.uint32_t(number), out, room, length)
 	})
 	return text
+}
+
+// The greatest value of an instrument, that of all numbers where nobody records.
+func greatest(own *handles, instrument int) int64 {
+	out := C.wormweekly_range_out{greatest: math.MaxInt64}
+	if own.counts.recorders > 0 {
+		C.wormweekly_range(own.recorder(0), C.uint32_t(instrument), &out)
+	}
+	return int64(out.greatest)
 }
 
 func warnings(own *handles) string {

@@ -4,6 +4,7 @@ import (
 	"fmt"
 	"strings"
 	"sync"
+	"sync/atomic"
 	"time"
 )
 
@@ -19,10 +20,12 @@ type Metrics struct {
 	run *run
 }
 
-// A run owns the handles. What works on several seats at once goes through its gate.
+// A run owns the handles, which are looked at while a recorder, an instrument or a reader is held, and changed while all are.
+// Recorders are held before an instrument, in their order.
 type run struct {
-	gate        sync.Mutex
 	handles     *handles
+	number      uint64 // how many runs ended in its place
+	tell        atomic.Pointer[func(*Instrument, error)]
 	instruments []*Instrument
 	recorders   []*Recorder
 	readers     []*Reader
@@ -82,10 +85,12 @@ func newMetrics(own *run) *Metrics {
 	handles := own.handles
 	for number := 0; number < int(handles.counts.instruments); number++ {
 		own.instruments = append(own.instruments, &Instrument{run: own, number: number,
-			name: name(handles, instrumentName, number), meter: name(handles, meterName, number)})
+			name: name(handles, instrumentName, number), meter: name(handles, meterName, number),
+			greatest: greatest(handles, number)})
 	}
 	for number := 0; number < int(handles.counts.recorders); number++ {
-		own.recorders = append(own.recorders, &Recorder{run: own, number: number, name: name(handles, recorderName, number)})
+		own.recorders = append(own.recorders, &Recorder{run: own, number: number, name: name(handles, recorderName, number),
+			kept: make([]uint64, len(own.instruments))})
 	}
 	for number := 0; number < int(handles.counts.readers); number++ {
 		own.readers = append(own.readers, &Reader{run: own, number: number, name: name(handles, readerName, number)})
@@ -154,14 +159,20 @@ func (metrics *Metrics) RollOver(start time.Time) ([]Total, error) {
 	}
 	own.handles.free()
 	own.handles = next
+	own.number++
+	for _, instrument := range own.instruments {
+		instrument.spent.Store(0)
+	}
+	for _, recorder := range own.recorders {
+		recorder.kept = make([]uint64, len(own.instruments))
+	}
 	return totals, nil
 }
 
 // Waits for all recorders and instruments, and keeps them.
 func (own *run) stop() {
-	own.gate.Lock()
 	for _, recorder := range own.recorders {
-		recorder.keep()
+		recorder.mutex.Lock()
 	}
 	for _, instrument := range own.instruments {
 		instrument.mutex.Lock()
@@ -173,9 +184,8 @@ func (own *run) goOn() {
 		instrument.mutex.Unlock()
 	}
 	for _, recorder := range own.recorders {
-		recorder.state.Store(free)
+		recorder.mutex.Unlock()
 	}
-	own.gate.Unlock()
 }
 
 func (own *run) settle() ([]Total, error) {
@@ -190,13 +200,24 @@ func (own *run) settle() ([]Total, error) {
 	return totals, nil
 }
 
-// An Instrument is shared by goroutines.
+// An Instrument is recorded on by any goroutine.
+//
+// A recording takes a recorder that no other goroutine is using. One whose budget is spent hands on to the next, and the last
+// one asks the spare budget; only then is a recording refused. What is refused, for whatever reason, changes nothing but what
+// Refused answers, and is told once for each reason to what Metrics.OnRefusal was given. Calls that begin with Try answer the
+// error too.
 type Instrument struct {
 	run    *run
 	mutex  sync.Mutex
 	number int
 	name   string
 	meter  string
+	// the greatest value of its range, and how many durations were above it
+	greatest int64
+	clamped  atomic.Uint64
+	// the recorders that had no budget left, a bit for each; changed while the instrument is held
+	spent   atomic.Uint64
+	refused refusals
 }
 
 // Name is the name.
@@ -208,26 +229,27 @@ func (instrument *Instrument) Meter() string { return instrument.meter }
 // Number is its number in the catalogue, from 0.
 func (instrument *Instrument) Number() int { return instrument.number }
 
+// Clamped is how many durations above its range were recorded as the greatest value of the range. Where these are many,
+// declare a wider range.
+func (instrument *Instrument) Clamped() uint64 { return instrument.clamped.Load() }
+
 // A Bound set of attributes was looked up once, for recordings on an instrument.
 type Bound struct {
 	instrument *Instrument
 	set        setKey
 }
 
-// Bind looks up a set of attributes, for recordings by Recorder.Add. With an error comes a Bound that records nothing.
+// Bind looks up a set of attributes, for recordings by Bound.Add or by Recorder.Add. With an error comes a Bound that records nothing.
 func (instrument *Instrument) Bind(attributes ...Attr) (Bound, error) {
 	own := instrument.run
 	if len(own.recorders) == 0 {
 		return Bound{}, errorOn(instrument, answerUnknownRecorder)
 	}
-	own.gate.Lock()
-	defer own.gate.Unlock()
-	first := own.recorders[0]
-	first.keep()
-	defer first.state.Store(free)
-	set, answer := prepare(own.handles, instrument.number, first.number, attributes)
+	recorder := own.take()
+	defer recorder.mutex.Unlock()
+	set, answer := prepare(own.handles, instrument.number, recorder.number, attributes)
 	if answer != answerDone {
-		return Bound{}, errorSaid(instrument, answer, first.number, attributes, 0)
+		return Bound{}, errorSaid(instrument, answer, recorder.number, attributes, 0)
 	}
 	return Bound{instrument, set}, nil
 }
@@ -242,7 +264,8 @@ func (instrument *Instrument) Grant(recorder *Recorder, amount uint64) error {
 	}
 	instrument.mutex.Lock()
 	defer instrument.mutex.Unlock()
-	return errorOn(instrument, grant(instrument.run.handles, instrument.number, recorder.number, amount))
+	answer := grant(instrument.run.handles, instrument.number, recorder.number, amount)
+	return errorOn(instrument, instrument.granted(answer))
 }
 
 // Spare is what may be granted beside the budgets.

@@ -5,6 +5,7 @@ import (
 	"context"
 	"encoding/json"
 	"errors"
+	"math"
 	"math/big"
 	"reflect"
 	"runtime"
@@ -77,6 +78,36 @@ func TestValues(t *testing.T) {
 		if got := batch.Streams[0].Points[0].Value; !reflect.DeepEqual(got, one.want) {
 			t.Errorf("%s: %v, and not %v", one.name, got, one.want)
 		}
+	}
+}
+
+func TestDurationsAboveTheRangeAreClampedAndCounted(t *testing.T) {
+	metrics, first, _, _ := opened(t)
+	duration := must(metrics.Instrument("duration"))(t)
+	route := must(duration.Bind(home[0]))(t)
+	done(t, first.AddDuration(route, time.Minute, time.Millisecond))
+	if duration.Clamped() != 0 {
+		t.Error("a minute is in the range")
+	}
+	done(t, first.AddDuration(route, time.Minute+time.Millisecond, time.Millisecond))
+	done(t, first.AddDuration(route, math.MaxInt64, time.Nanosecond))
+	want := Buckets{3, []uint64{0, 0, 0, 3}, true, 180000, 60000, 60000}
+	batch := must(metrics.Readers[0].Collect(duration, at(1)))(t)
+	if got := batch.Streams[0].Points[0].Value; !reflect.DeepEqual(got, want) || duration.Clamped() != 2 {
+		t.Errorf("%v, and %d clamped", got, duration.Clamped())
+	}
+	done(t, duration.Close())
+	for err, wanted := range map[error]error{
+		first.AddDuration(route, time.Hour, time.Nanosecond): ErrClosed,
+		first.AddDuration(route, time.Hour, 0):               ErrUnit,
+		first.AddDuration(Bound{}, time.Hour, time.Second):   ErrUnknownInstrument,
+	} {
+		if !errors.Is(err, wanted) {
+			t.Errorf("%v, and not %v", err, wanted)
+		}
+	}
+	if duration.Clamped() != 2 {
+		t.Error("what is refused is counted as clamped")
 	}
 }
 

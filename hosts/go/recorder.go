@@ -1,26 +1,23 @@
 package wormweekly
 
 import (
-	"runtime"
+	"sync"
 	"sync/atomic"
+	"time"
 )
 
-// The states of a recorder: nobody has it, a goroutine records with it, or its run has it.
-const (
-	free int32 = iota
-	used
-	kept
-)
-
-// A Recorder is the seat of a recorder, for one goroutine at a time.
+// A Recorder is the seat of a recorder, for a goroutine that wants its own: Instrument.Add needs none. It is for one
+// goroutine at a time.
 type Recorder struct {
 	run    *run
-	state  atomic.Int32
+	mutex  sync.Mutex
 	number int
 	name   string
 	list   []prepared
-	// how often each instrument is counted in and not out again
-	underWay map[*Instrument]uint64
+	// whether a call of its own has it, and not its run or an instrument
+	isUsed atomic.Bool
+	// of each instrument, how many recordings count out what is under way
+	kept []uint64
 }
 
 // Name is the name.
@@ -38,10 +35,10 @@ func (recorder *Recorder) Record(on *Instrument, value int64, attributes ...Attr
 	answer := record(recorder.run.handles, on.number, recorder.number, attributes, value)
 	on.mutex.Unlock()
 	if answer == answerDone {
-		recorder.state.Store(free)
+		recorder.end()
 		return nil
 	}
-	defer recorder.state.Store(free)
+	defer recorder.end()
 	return errorSaid(on, answer, recorder.number, attributes, value)
 }
 
@@ -54,11 +51,32 @@ func (recorder *Recorder) Add(bound Bound, value int64) error {
 	on.mutex.Lock()
 	answer := recordSet(recorder.run.handles, on.number, recorder.number, bound.set, value)
 	on.mutex.Unlock()
-	recorder.state.Store(free)
+	recorder.end()
 	if answer == answerDone {
 		return nil
 	}
 	return errorOn(on, answer)
+}
+
+// AddDuration records how long something took, in whole units, as time.Millisecond. What is above the range of the
+// instrument is recorded as its greatest value, and Instrument.Clamped counts it. Where it is refused, nothing is counted.
+func (recorder *Recorder) AddDuration(bound Bound, took, unit time.Duration) error {
+	if unit <= 0 {
+		return ErrUnit
+	}
+	on := bound.instrument
+	if on == nil {
+		return errorOf(answerUnknownInstrument)
+	}
+	whole := int64(took / unit)
+	if whole <= on.greatest {
+		return recorder.Add(bound, whole)
+	}
+	if err := recorder.Add(bound, on.greatest); err != nil {
+		return err
+	}
+	on.clamped.Add(1)
+	return nil
 }
 
 // An Item is a recording of a list.
@@ -90,7 +108,7 @@ func (recorder *Recorder) AddAll(items []Item) error {
 	if answer == answerDone && made < len(items) {
 		answer = answerUnknownInstrument
 	}
-	recorder.state.Store(free)
+	recorder.end()
 	if answer == answerDone {
 		return nil
 	}
@@ -103,23 +121,20 @@ func (recorder *Recorder) AddAll(items []Item) error {
 func (recorder *Recorder) InFlight(bound Bound) (out func() error, err error) {
 	on := bound.instrument
 	nothing := func() error { return nil }
-	left, err := recorder.Budget(on)
-	if err != nil {
+	if err := recorder.begin(on); err != nil {
 		return nothing, err
 	}
-	if left.Left < recorder.underWay[on]+2 {
-		return nothing, errorOn(on, answerBudget)
+	defer recorder.end()
+	what := recording{set: bound.set, isSet: true, value: 1, isCountedIn: true}
+	if answer := on.made(recorder, &what); answer != answerDone {
+		return nothing, errorOn(on, answer)
 	}
-	if err := recorder.Add(bound, 1); err != nil {
-		return nothing, err
-	}
-	if recorder.underWay == nil {
-		recorder.underWay = map[*Instrument]uint64{}
-	}
-	recorder.underWay[on]++
 	return func() error {
-		recorder.underWay[on]--
-		return recorder.Add(bound, -1)
+		if err := recorder.begin(on); err != nil {
+			return err
+		}
+		defer recorder.end()
+		return errorOn(on, on.countOut(recorder, &what))
 	}, nil
 }
 
@@ -127,7 +142,7 @@ func (recorder *Recorder) InFlight(bound Bound) (out func() error, err error) {
 // ask.
 func (recorder *Recorder) Ask(on *Instrument, amount uint64) error {
 	return recorder.between(on, func() uint32 {
-		return ask(recorder.run.handles, on.number, recorder.number, amount)
+		return on.granted(ask(recorder.run.handles, on.number, recorder.number, amount))
 	})
 }
 
@@ -145,10 +160,8 @@ func (recorder *Recorder) between(on *Instrument, call func() uint32) error {
 	if err := recorder.takes(on); err != nil {
 		return err
 	}
-	recorder.run.gate.Lock()
-	defer recorder.run.gate.Unlock()
-	recorder.keep()
-	defer recorder.state.Store(free)
+	recorder.mutex.Lock()
+	defer recorder.mutex.Unlock()
 	on.mutex.Lock()
 	defer on.mutex.Unlock()
 	return errorOn(on, call())
@@ -165,24 +178,23 @@ func (recorder *Recorder) takes(on *Instrument) error {
 	return nil
 }
 
-// Takes the recorder for this goroutine. It waits for the run, and not for another goroutine.
+// Takes the recorder for a call of its own. It waits for the run and for a recording by an instrument, and not for another
+// goroutine that has the recorder.
 func (recorder *Recorder) begin(on *Instrument) error {
 	if err := recorder.takes(on); err != nil {
 		return err
 	}
-	for !recorder.state.CompareAndSwap(free, used) {
-		if recorder.state.Load() == used {
+	if !recorder.mutex.TryLock() {
+		if recorder.isUsed.Load() {
 			return ErrInUse
 		}
-		recorder.run.gate.Lock()
-		recorder.run.gate.Unlock() //nolint:staticcheck // what is waited for is its end
+		recorder.mutex.Lock()
 	}
+	recorder.isUsed.Store(true)
 	return nil
 }
 
-// Takes the recorder for the run, whose gate is held.
-func (recorder *Recorder) keep() {
-	for !recorder.state.CompareAndSwap(free, kept) {
-		runtime.Gosched()
-	}
+func (recorder *Recorder) end() {
+	recorder.isUsed.Store(false)
+	recorder.mutex.Unlock()
 }

@@ -42,6 +42,7 @@ var (
 	ErrStranger          = &Refusal{Name: "Stranger", sentence: "the recorder or reader is of another run"}
 	ErrUnknownInstrument = &Refusal{Name: "UnknownInstrument", sentence: "the plan has no such instrument"}
 	ErrUnknownRecorder   = &Refusal{Name: "UnknownRecorder", sentence: "the instrument has no such recorder"}
+	ErrUnit              = &Refusal{Name: "Unit", sentence: "a unit of time is not above 0"}
 	ErrInUse             = &Refusal{Name: "InUse", sentence: "another goroutine is using the recorder"}
 	ErrNotLent           = &Refusal{Name: "NotLent", sentence: "the pool did not lend this recorder"}
 	ErrNoPool            = &Refusal{Name: "NoPool", sentence: "NewPool did not make this pool, so that it lends nothing"}
@@ -87,15 +88,25 @@ var byAnswer = map[uint32]*Refusal{
 	111: ErrLabelCollision,
 }
 
+var errOther = &Refusal{Name: "Other", sentence: "the library answered a number that this package does not know"}
+
+// The refusal that an answer is.
+func refusalOf(answer uint32) *Refusal {
+	if refusal, is := byAnswer[answer]; is {
+		return refusal
+	}
+	return errOther
+}
+
 // Makes an error of an answer, nil where it is 0.
 func errorOf(answer uint32) error {
 	if answer == answerDone {
 		return nil
 	}
-	if refusal, is := byAnswer[answer]; is {
+	if refusal := refusalOf(answer); refusal != errOther {
 		return refusal
 	}
-	return &Refusal{Name: "Other", sentence: fmt.Sprintf("the library answered %d", answer)}
+	return fmt.Errorf("%w: %d", errOther, answer)
 }
 
 // The same, with the name of the instrument that it is about.

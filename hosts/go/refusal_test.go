@@ -273,7 +273,7 @@ func TestARecorderIsOneGoroutines(t *testing.T) {
 	requests.mutex.Lock() // so that the other one waits in its recording
 	recorded := make(chan error)
 	go func() { recorded <- first.Add(bound, 1) }()
-	for first.state.Load() != used {
+	for !first.isUsed.Load() {
 		time.Sleep(time.Millisecond)
 	}
 	calls := []func() error{

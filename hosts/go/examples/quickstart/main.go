@@ -39,18 +39,14 @@ func run() error {
 	if err != nil {
 		return err
 	}
-	orders, till := metrics.Instruments[0], metrics.Recorders[0]
-	if err := till.Record(orders, 2, wormweekly.String("country", "de")); err != nil {
-		return err
-	}
+	orders := metrics.Instruments[0]
+	orders.Add(2, wormweekly.String("country", "de"))
 	french, err := orders.Bind(wormweekly.String("country", "fr"))
 	if err != nil {
 		return err
 	}
-	if err := till.Add(french, 1); err != nil {
-		return err
-	}
-	if err := till.Record(orders, 1, wormweekly.String("country", "uk")); errors.Is(err, wormweekly.ErrUnknownValue) {
+	french.Add(1)
+	if err := orders.TryAdd(1, wormweekly.String("country", "uk")); errors.Is(err, wormweekly.ErrUnknownValue) {
 		fmt.Println(err)
 	}
 	text, err := metrics.Readers[0].Text(orders, time.Unix(0, 1000))

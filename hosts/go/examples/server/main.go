@@ -80,6 +80,7 @@ func run(address string) error {
 	}
 	mux := http.NewServeMux()
 	mux.Handle("/metrics", page)
+	metrics.OnRefusal(func(_ *wormweekly.Instrument, err error) { log.Printf("not counted, told once: %v", err) })
 	mux.Handle("/", measured(http.HandlerFunc(shop), metrics))
 	if address != "" {
 		return http.ListenAndServe(address, mux)
@@ -106,35 +107,18 @@ func (own *noted) WriteHeader(status int) {
 	own.ResponseWriter.WriteHeader(status)
 }
 
-// Measures a handler. Each request has a recorder of its own while it is served, and is served whether it is counted or
-// not.
+// Measures a handler. A request is served, whether it is counted or not.
 func measured(handler http.Handler, metrics *wormweekly.Metrics) http.Handler {
-	requests, duration := metrics.Instruments[0], metrics.Instruments[1]
-	inFlight, err := metrics.Instruments[2].Bind()
-	tell(err)
-	pool := wormweekly.NewPool(metrics.Recorders...)
+	requests, duration, inFlight := metrics.Instruments[0], metrics.Instruments[1], metrics.Instruments[2]
 	return http.HandlerFunc(func(writer http.ResponseWriter, request *http.Request) {
-		own, err := pool.Get(request.Context())
-		if err != nil {
-			return // whoever asked has gone
-		}
-		defer func() { tell(pool.Put(own)) }()
 		route := wormweekly.String("route", routeOf(request))
 		began := time.Now()
-		out, err := own.InFlight(inFlight)
-		tell(err)
-		defer func() { tell(out()) }()
+		defer inFlight.InFlight()()
 		answer := &noted{writer, http.StatusOK}
 		handler.ServeHTTP(answer, request)
-		tell(own.Record(duration, time.Since(began).Milliseconds(), route))
-		tell(own.Record(requests, 1, route, wormweekly.Int("status", int64(answer.status))))
+		duration.AddDuration(time.Since(began), time.Millisecond, route)
+		requests.Add(1, route, wormweekly.Int("status", int64(answer.status)))
 	})
-}
-
-func tell(err error) {
-	if err != nil {
-		log.Printf("not counted: %v", err)
-	}
 }
 
 func routeOf(request *http.Request) string {
