@@ -12,7 +12,7 @@ use Rattle.metric_periodic.specs.Counts.{AreCalls, Handed, HandsOn, HandsOnNothi
 use Rattle.metric_export.specs.ExporterCalls.{Calls}
 use Rattle.metric_export.specs.Handings.{Answering, Exporting}
 use Rattle.metric_periodic.specs.Exported.{ExportsCollected, ExportsEach, HandsOnCollected, IsFlushed, IsRetried, RetriesWhere, Tally, failed_after, gave_none}
-use Rattle.metric_periodic.specs.Runs.{IsRun, ReadsAll}
+use Rattle.metric_periodic.specs.Runs.{IsRun}
 use Rattle.metric_periodic.specs.Ticks.{is_woken}
 use Rattle.metric_periodic.specs.Turns.{AreTurns, Giving, Progress}
 

@@ -32,4 +32,5 @@ returns-clause-shut_down g c =
 
 pub returns-clause-kept : goal.returns-clause-kept
 returns-clause-kept g c =
-    run_keeps_refused _ _ (calls_of g.E.MetricExporter c.args.provider.now.plan) _ _ _ _ _ _ _ (rw (← c.exports.view_is) at c.read_to_end-ended.ensures.run)
+    run_keeps_refused _ _ (calls_of g.E.MetricExporter c.args.provider.now.plan) _ _ _ _ _ _ _
+    (rw (c.plan-plan.ensures, ← c.exports.view_is) at c.read_to_end-ended.ensures.run)
