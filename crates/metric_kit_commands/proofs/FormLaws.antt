@@ -2,6 +2,7 @@
 use Rattle.std.proofs.Common.{◌∙◌, ℕ, Bool, List, Option, Some, None, Result, Ok, Err, inl, inr}
 use Rattle.metric_history.specs.declared.batch.Batch.{Batch}
 use Rattle.metric_plan.specs.Plans.{PlanValue}
+use Rattle.metric_parts.specs.declared.parts.Parts.{Parts}
 use Rattle.metric_kit_commands.specs.declared.fault.KitFault.{KitFault}
 use Rattle.metric_kit_commands.specs.Commands.{IfDue, RunsCommand, SinkRun, SourceRun}
 use Rattle.metric_kit_commands.specs.Replaying.{IsEncodedOutput, IsFormed, plain_options}
@@ -10,13 +11,13 @@ use Rattle.metric_kit_commands.specs.Written.{parts_text}
 use Rattle.metric_kit_commands.proofs.PieceLaws.{unnumbered}
 
 -- replies in the form of an encoding are the batches in it
-pub is_encoded : (encode : PlanValue → Batch → List ℕ) (trial : Bool) (input bytes : List ℕ) → IsFormed (encoded_reply encode) (plain_options trial) input bytes
-    → IsEncodedOutput encode (plain_options trial) input bytes
+pub is_encoded : (encode : PlanValue → Batch → List ℕ) (trial : Bool) (read : Parts) (bytes : List ℕ) → IsFormed (encoded_reply encode) (plain_options trial) read bytes
+    → IsEncodedOutput encode (plain_options trial) read bytes
 unfolding parts_text
-is_encoded encode trial input bytes formed = record {
+is_encoded encode trial read bytes formed = record {
   plan = formed.plan;
   replies = formed.replies;
-  replayed = formed.replayed;
+  answered = formed.answered;
   written = formed.written ∙ unnumbered (encoded_reply encode formed.plan) 0 formed.replies;
 }
 

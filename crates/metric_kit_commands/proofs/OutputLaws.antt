@@ -59,21 +59,21 @@ pub one_output : (parts : (needs : Needs) (lines : List (List ℕ)) (a b : Conte
     → (events : (lines : List (List ℕ)) (s t : ℕ) (a b : List Event) → IsScript lines s a → IsScript lines t b → a ≡ b)
     → (options : ReplayOptions) (input a b : List ℕ) → IsOutput options input a → IsOutput options input b → a ≡ b
 one_output parts starts events options input a b p q =
-    let x = p.replayed in
-    let y = q.replayed in
+    let x = p.is_answer in
+    let y = q.is_answer in
     let s = x.answered in
     let t = y.answered in
-    let read : x.read ≡ y.read = same_read parts _ _ x.read y.read x.is_read y.is_read in
-    let plan : p.plan ≡ q.plan = same_plan options y.read p.plan q.plan (subst (λ (r : Parts). IsPlanned options r p.plan) read s.is_planned) t.is_planned in
-    let script : s.script ≡ t.script = some_is s.script t.script y.read.script (ap (λ (r : Parts). r.script) (sym read) ∙ s.has_script) t.has_script in
+    let read : p.read ≡ q.read = same_read parts _ _ p.read q.read p.is_read q.is_read in
+    let plan : x.plan ≡ y.plan = same_plan options q.read x.plan y.plan (subst (λ (r : Parts). IsPlanned options r x.plan) read s.is_planned) t.is_planned in
+    let script : s.script ≡ t.script = some_is s.script t.script q.read.script (ap (λ (r : Parts). r.script) (sym read) ∙ s.has_script) t.has_script in
     let here : IsScript t.script.lines s.start s.events = subst (λ (l : ScriptLines). IsScript l.lines s.start s.events) script s.is_script in
     let start : s.start ≡ t.start = starts t.script.lines s.start t.start s.events t.events here t.is_script in
     let run : s.events ≡ t.events = events t.script.lines s.start t.start s.events t.events here t.is_script in
-    let on_plan : AllLegal q.plan.facts s.start [] s.events p.replies = subst (λ (v : PlanValue). AllLegal v.facts s.start [] s.events p.replies) plan s.run.legal in
-    let on_start : AllLegal q.plan.facts t.start [] s.events p.replies = subst (λ (n : ℕ). AllLegal q.plan.facts n [] s.events p.replies) start on_plan in
-    let on_events : AllLegal q.plan.facts t.start [] t.events p.replies = subst (λ (es : List Event). AllLegal q.plan.facts t.start [] es p.replies) run on_start in
-    let replies : p.replies ≡ q.replies = one_run q.plan.facts t.start [] t.events p.replies q.replies on_events t.run.legal s.run.remembered t.run.remembered in
-    p.written
-    ∙ ap (λ (v : PlanValue). replies_text v p.replies ++ audit_text options p.replies) plan
-    ∙ ap (λ (rs : List Reply). replies_text q.plan rs ++ audit_text options rs) replies
-    ∙ sym q.written
+    let on_plan : AllLegal y.plan.facts s.start [] s.events x.replies = subst (λ (v : PlanValue). AllLegal v.facts s.start [] s.events x.replies) plan s.run.legal in
+    let on_start : AllLegal y.plan.facts t.start [] s.events x.replies = subst (λ (n : ℕ). AllLegal y.plan.facts n [] s.events x.replies) start on_plan in
+    let on_events : AllLegal y.plan.facts t.start [] t.events x.replies = subst (λ (es : List Event). AllLegal y.plan.facts t.start [] es x.replies) run on_start in
+    let replies : x.replies ≡ y.replies = one_run y.plan.facts t.start [] t.events x.replies y.replies on_events t.run.legal s.run.remembered t.run.remembered in
+    x.written
+    ∙ ap (λ (v : PlanValue). replies_text v x.replies ++ audit_text options x.replies) plan
+    ∙ ap (λ (rs : List Reply). replies_text y.plan rs ++ audit_text options rs) replies
+    ∙ sym y.written

@@ -24,6 +24,7 @@ use Rattle.metric_kit_commands.specs.declared.fault.KitFault.TheVariants.{
   Write,
   Memory,
 }
+use Rattle.metric_kit_commands.specs.Commands.{IsAnswerTo}
 use Rattle.metric_kit_commands.specs.Declarations.{IsDeclared, IsDeclaredFault, IsMisdeclared}
 use Rattle.metric_kit_commands.specs.Showing.{show_needs}
 
@@ -48,10 +49,8 @@ pub record IsCertified (read : Parts) (text : List ℕ) : Type 0 where
 
 -- # certificate of an input (profile) [IsCertificateText, IsTextFor]
 -- A text that is read as the certificate made for what the parts declare.
-pub record IsCertificateText (input text : List ℕ) : Type 0 where
-  pub read : Parts
-  pub is_read : IsRead show_needs (lines_of input) read
-  pub certified : IsCertified read text
+abbrev pub IsCertificateText : List ℕ → List ℕ → Type 0
+IsCertificateText = IsAnswerTo show_needs IsCertified
 
 -- What the parts declare is right, and not safe.
 abbrev pub IsRefusedMake : Parts → MakeFault → Type 0

@@ -21,6 +21,7 @@ use Rattle.metric_kit_commands.specs.declared.fault.KitFault.TheVariants.{
   Memory,
 }
 use Rattle.metric_kit_commands.specs.Claims.{IsCertifiedPlan, IsClaimFault}
+use Rattle.metric_kit_commands.specs.Commands.{IsAnswerTo}
 use Rattle.metric_kit_commands.specs.Declarations.{IsMisdeclared}
 
 -- the certificate with what it is for
@@ -37,12 +38,15 @@ pub record IsCertifiedInput (input : List ℕ) (plan : PlanValue) : Type 0 where
 abbrev pub accepted_text : List ℕ
 accepted_text = codes "accepted\n"
 
--- # acceptance (profile) [IsAcceptance, IsFirstCheckFault]
+-- # acceptance (profile) [IsAcceptance, IsAccepted, IsFirstCheckFault]
 -- The text `accepted`, where the certificate of an input is valid.
-pub record IsAcceptance (input text : List ℕ) : Type 0 where
+pub record IsAccepted (read : Parts) (text : List ℕ) : Type 0 where
   pub plan : PlanValue
-  pub certified : IsCertifiedInput input plan
+  pub certified : IsCertifiedPlan read plan
   pub written : text ≡ accepted_text
+
+abbrev pub IsAcceptance : List ℕ → List ℕ → Type 0
+IsAcceptance = IsAnswerTo check_needs IsAccepted
 
 -- The fault is the first that the input has.
 abbrev pub IsFirstCheckFault : List ℕ → KitFault → Type 0

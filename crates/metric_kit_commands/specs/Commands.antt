@@ -1,8 +1,8 @@
 -- What a command promises that reads one input and writes one text.
-use Rattle.std.specs.Prelude.{◌≢◌, ◌≤◌, ◌+◌, ◌⊎◌, ℕ, List, Option, Result, IfErr, IfSome, IsErrOf}
-use Rattle.std.specs.Prelude.{OnOk, OnErr}
+use Rattle.std.specs.Prelude.{◌≢◌, ◌≤◌, ◌+◌, ◌⊎◌, ℕ, List, [], Option, Some, Result, IfErr, IfSome}
+use Rattle.std.specs.Prelude.{IsErrOf, IsSome, IsTrue, OnOk, OnErr}
 use Rattle.std.specs.Io.KnownBytes.{Appends, Keeps}
-use Rattle.metric_io.specs.Counts.{HasFailed}
+use Rattle.metric_io.specs.Counts.{HasFailed, no_reads}
 use Rattle.metric_io.specs.declared.counts.ReadCounts.{ReadCounts}
 use Rattle.metric_io.specs.Input.{IsReadFault}
 use Rattle.metric_io.specs.Prefix.{AppendsPrefix}
@@ -44,14 +44,19 @@ sink_run contents failures old new = record {
 abbrev pub IfDue : (List ℕ → List ℕ → Type 0) → Option (List ℕ) → (List ℕ → Type 0) → Type 0
 IfDue IsText input Holds = IfSome input (λ bytes. (text : List ℕ) × IsText bytes text × Holds text)
 
--- The answer is what a command makes of the parts of the input.
+-- The answer, or the text that is written of it, is what a command makes of the parts of the input.
 pub record IsAnswerTo {A : Type 0} (needs : Needs) (IsAnswer : Parts → A → Type 0)
     (input : List ℕ) (answer : A) : Type 0 where
   pub read : Parts
   pub is_read : IsRead needs (lines_of input) read
   pub is_answer : IsAnswer read answer
 
--- # promises of a command (profile)
+-- The parts that a command needs are there.
+pub record HasNeeded (needs : Needs) (read : Parts) : Type 0 where
+  pub certificate : IsTrue needs.certificate → IsSome read.certificate
+  pub script : IsTrue needs.script → IsSome read.script
+
+-- # promises of a command (profile) [RunsCommand, RunsParts]
 -- Done, its whole text is written; else a prefix, and nothing where the input has a fault; each
 -- fault is the first that the bytes have; `Read` and `Write` only where a device failed or a limit
 -- was passed.
@@ -73,3 +78,11 @@ pub record RunsCommand {A : Type 0} (IsText : List ℕ → List ℕ → Type 0)
   pub read : IsErrOf result Read → IsReadFault source.counts source.counts_after source.input
   pub write : IsErrOf result Write → HasFailed sink.failures sink.failures_after
   pub asked : source.counts_after.reads ≤ source.counts.reads + most_reads
+
+-- Of parts that were read before the command, it reads nothing, and each fault is the first that
+-- they have.
+abbrev pub RunsParts : {A : Type 0} → (List ℕ → Type 0) → (KitFault → Type 0) → SinkRun
+    → Result A KitFault → Type 0
+RunsParts {A} IsText IsFault sink result =
+    RunsCommand (λ input text. IsText text) (λ input fault. IsFault fault)
+    (record { input = Some []; counts = no_reads; counts_after = no_reads }) sink result

@@ -1,4 +1,4 @@
--- The page that a replay of an input writes.
+-- The page that a replay writes.
 use Rattle.std.specs.Prelude.{◌≡◌, ◌==◌, ◌&&◌, ◌++◌, ℕ, List, [], Option, Some, None, length}
 use Rattle.std.specs.Prelude.{if◌then◌else◌}
 use Rattle.std.specs.List.{filter_map, flat_map, last_or, range_with_len}
@@ -7,7 +7,8 @@ use Rattle.metric_plan.specs.Plans.{PlanValue}
 use Rattle.metric_history.specs.declared.batch.Batch.{Batch}
 use Rattle.metric_history.specs.declared.event.Reply.{Reply}
 use Rattle.metric_history.specs.declared.event.Reply.TheVariants.{Collected}
-use Rattle.metric_kit_commands.specs.Replaying.{IsReplayed}
+use Rattle.metric_parts.specs.declared.parts.Parts.{Parts}
+use Rattle.metric_kit_commands.specs.Replaying.{IsAnswered}
 use Rattle.metric_kit_commands.specs.declared.options.ReplayOptions.{ReplayOptions}
 
 -- the batch of a reply, where it is of the reader and the instrument
@@ -32,17 +33,17 @@ last_lines encode reader plan replies =
     flat_map (lines_of_last encode reader plan replies)
     (range_with_len 0 (length plan.facts.contents.instruments))
 
--- # page of an input (profile) [page_text, IsPage, last_batch]
+-- # page of a replay (profile) [page_text, IsPage, last_batch]
 -- What it begins with, the last batch of the reader of each instrument in an encoding, and its end.
 abbrev pub page_text
     : (PlanValue → Batch → List ℕ) → ℕ → List ℕ → List ℕ → PlanValue → List Reply → List ℕ
 page_text encode reader head tail plan replies =
     head ++ last_lines encode reader plan replies ++ tail
 
--- The page of the replies to an input.
+-- The page of the replies to the script of parts.
 pub record IsPage (encode : PlanValue → Batch → List ℕ) (reader : ℕ) (head tail : List ℕ)
-    (options : ReplayOptions) (input bytes : List ℕ) : Type 0 where
+    (options : ReplayOptions) (read : Parts) (bytes : List ℕ) : Type 0 where
   pub plan : PlanValue
   pub replies : List Reply
-  pub replayed : IsReplayed options input plan replies
+  pub answered : IsAnswered options read plan replies
   pub written : bytes ≡ page_text encode reader head tail plan replies

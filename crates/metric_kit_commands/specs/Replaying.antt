@@ -36,6 +36,7 @@ use Rattle.metric_kit_commands.specs.declared.fault.KitFault.TheVariants.{
   Memory,
 }
 use Rattle.metric_kit_commands.specs.Claims.{IsCertifiedPlan, IsFaultyCertificate, IsRefusedCheck}
+use Rattle.metric_kit_commands.specs.Commands.{IsAnswerTo}
 use Rattle.metric_kit_commands.specs.Declarations.{IsDeclared, IsDeclaredFault, IsMisdeclared}
 use Rattle.metric_kit_commands.specs.Audits.{AreAudited}
 use Rattle.metric_kit_commands.specs.Replies.{accepted_count, audited_text, encoded_reply, formed_text, replies_text}
@@ -77,7 +78,7 @@ pub record IsPrepared (options : ReplayOptions) (read : Parts) (plan : PlanValue
   pub has_script : read.script ≡ Some script
   pub is_script : IsScript script.lines start events
 
--- # replies to an input (profile) [IsAnswered, IsReplayed]
+-- # replies to an input (profile)
 -- A legal reply for each event of its script, none of them out of memory, under the plan of what it
 -- declares.
 pub record IsAnswered (options : ReplayOptions) (read : Parts) (plan : PlanValue)
@@ -90,6 +91,11 @@ pub record IsAnswered (options : ReplayOptions) (read : Parts) (plan : PlanValue
   pub is_script : IsScript script.lines start events
   pub run : IsRun plan start events replies
 
+-- The replies under some plan.
+pub record AreReplies (options : ReplayOptions) (read : Parts) (replies : List Reply) : Type 0 where
+  pub plan : PlanValue
+  pub answered : IsAnswered options read plan replies
+
 -- What an audited run comes to: the replies, with how many recordings they accept, and the
 -- audit of each instrument ends well.
 pub record IsAuditedRun (options : ReplayOptions) (read : Parts) (plan : PlanValue)
@@ -98,44 +104,40 @@ pub record IsAuditedRun (options : ReplayOptions) (read : Parts) (plan : PlanVal
   pub audited : AreAudited plan.facts answered.start (grown [] answered.events replies)
   pub counted : accepted ≡ accepted_count replies
 
--- The replies to the script of the input.
-pub record IsReplayed (options : ReplayOptions) (input : List ℕ) (plan : PlanValue)
-    (replies : List Reply) : Type 0 where
-  pub read : Parts
-  pub is_read : IsRead (needs_of options) (lines_of input) read
-  pub answered : IsAnswered options read plan replies
-
 -- what an audit adds to the replies: a line with how many recordings were accepted
 abbrev pub audit_text : ReplayOptions → List Reply → List ℕ
 audit_text options replies = if options.audit then audited_text (accepted_count replies) else []
 
--- # output of an input (profile)
+-- # output of an input (profile) [IsOutputOf, IsOutput]
 -- The texts of the replies to it, one after the other; with an audit also the line of it, and each
 -- instrument is audited.
-pub record IsOutput (options : ReplayOptions) (input text : List ℕ) : Type 0 where
+pub record IsOutputOf (options : ReplayOptions) (read : Parts) (text : List ℕ) : Type 0 where
   pub plan : PlanValue
   pub replies : List Reply
-  pub replayed : IsReplayed options input plan replies
+  pub answered : IsAnswered options read plan replies
   -- an audit of each instrument ends well, where one is asked for
   pub audited : options.audit ≡ true
-      → AreAudited plan.facts replayed.answered.start (grown [] replayed.answered.events replies)
+      → AreAudited plan.facts answered.start (grown [] answered.events replies)
   pub written : text ≡ replies_text plan replies ++ audit_text options replies
 
--- The bytes that a replay of the input writes without an audit, of replies in a form.
-pub record IsFormed (text : PlanValue → Reply → List ℕ) (options : ReplayOptions)
-    (input bytes : List ℕ) : Type 0 where
+abbrev pub IsOutput : ReplayOptions → List ℕ → List ℕ → Type 0
+IsOutput options = IsAnswerTo (needs_of options) (IsOutputOf options)
+
+-- The bytes that a replay of parts writes without an audit, of replies in a form.
+pub record IsFormed (text : PlanValue → Reply → List ℕ) (options : ReplayOptions) (read : Parts)
+    (bytes : List ℕ) : Type 0 where
   pub plan : PlanValue
   pub replies : List Reply
-  pub replayed : IsReplayed options input plan replies
+  pub answered : IsAnswered options read plan replies
   pub written : bytes ≡ formed_text (text plan) replies
 
--- # encoded output of an input (profile)
+-- # encoded output (profile)
 -- The bytes of each batch among the replies in an encoding, in their order, and of no other reply.
 pub record IsEncodedOutput (encode : PlanValue → Batch → List ℕ) (options : ReplayOptions)
-    (input bytes : List ℕ) : Type 0 where
+    (read : Parts) (bytes : List ℕ) : Type 0 where
   pub plan : PlanValue
   pub replies : List Reply
-  pub replayed : IsReplayed options input plan replies
+  pub answered : IsAnswered options read plan replies
   pub written : bytes ≡ flat_map (encoded_reply encode plan) replies
 
 -- What the parts declare is right, but budgets for one instrument are

@@ -26,6 +26,7 @@ use Rattle.metric_kit_commands.specs.declared.fault.KitFault.TheVariants.{
   Write,
   Memory,
 }
+use Rattle.metric_kit_commands.specs.Commands.{IsAnswerTo}
 use Rattle.metric_kit_commands.specs.Declarations.{IsDeclared, IsDeclaredFault, IsMisdeclared}
 use Rattle.metric_kit_commands.specs.Written.{parts_text}
 
@@ -50,10 +51,8 @@ pub record IsListed (read : Parts) (text : List ℕ) : Type 0 where
 
 -- # shown text of an input (profile)
 -- The listing of the streams and warnings that its catalogue and its config give.
-pub record IsShown (input text : List ℕ) : Type 0 where
-  pub read : Parts
-  pub is_read : IsRead show_needs (lines_of input) read
-  pub listed : IsListed read text
+abbrev pub IsShown : List ℕ → List ℕ → Type 0
+IsShown = IsAnswerTo show_needs IsListed
 
 -- # first fault of a shown input (profile)
 -- Of its parts, then of its catalogue, then of its config.

@@ -52,7 +52,7 @@ struct Check;
 
 impl Command for Check {
     ghost use Rattle.std.specs.Prelude.{refl};
-    ghost use Rattle.metric_kit_commands.specs.Checking.{IsAcceptance as IsText, IsFirstCheckFault as IsFirst, accepted_text, check_needs, check_refused};
+    ghost use Rattle.metric_kit_commands.specs.Checking.{IsAccepted as IsText, IsFirstCheckFault as IsFirst, accepted_text, check_needs, check_refused};
     ghost use Rattle.metric_kit_commands.specs.Claims.{IsCertifiedPlan as IsPlan, IsClaimFault as IsFault};
 
     type Answer = Plan;
@@ -84,11 +84,7 @@ impl Command for Check {
         write_text(sink, b"accepted\n")
     }
 
-    ghost answered = { λ _ _ read plan is_read certified. record {
-      plan = plan;
-      certified = record { read = read; is_read = is_read; certified = certified };
-      written = refl;
-    } };
+    ghost answered = { λ _ _ plan certified. record { plan = plan; certified = certified; written = refl } };
 
     ghost refused = { λ _. check_refused };
 

@@ -2,7 +2,7 @@
 ghost use Rattle.std.specs.Prelude.{◌≡◌, OnOk, IfOk, IfErr, IsSome, IsTrue};
 ghost use Rattle.std.specs.Io.KnownBytes.{Appends};
 ghost use Rattle.metric_io.specs.Prefix.{AppendsPrefix};
-ghost use Rattle.metric_kit_commands.specs.Commands.{IsAnswerTo, RunsCommand, sink_run, source_run};
+ghost use Rattle.metric_kit_commands.specs.Commands.{HasNeeded, IsAnswerTo, RunsCommand, RunsParts, sink_run, source_run};
 ghost use Rattle.metric_kit_commands.specs.Faults.{IsOfInput};
 ghost use Rattle.metric_kit_commands.specs.Written.{IsSinkFault};
 ghost use Rattle.metric_parts.specs.declared.parts.Parts.{Parts as read_parts};
@@ -32,7 +32,7 @@ pub(crate) trait Command {
 
     ghost is_fault: { Self → Fault → Read → Type 0 };
 
-    ghost is_due: { Self → List ℕ → List ℕ → Type 0 };
+    ghost is_due: { Self → Read → List ℕ → Type 0 };
 
     ghost is_first_fault: { Self → List ℕ → Fault → Type 0 };
 
@@ -66,10 +66,9 @@ pub(crate) trait Command {
         ensures broken { IfErr result (IsSinkFault (W.failures sink.old) (W.failures sink.new)) }
         ensures counted { OnOk result (W.failures sink.new ≡ W.failures sink.old) };
 
-    // The text of an answer to the parts is due of the input.
-    ghost answered: { (command : Self) (input : List ℕ) (read : Read) (answer : Self.Answer)
-        → IsRead (needed command) (lines_of input) read → is_answer command read answer
-        → is_due command input (text command answer) };
+    // The text of an answer to the parts is due of them.
+    ghost answered: { (command : Self) (read : Read) (answer : Self.Answer)
+        → is_answer command read answer → is_due command read (text command answer) };
 
     // A fault of the parts is the first of the input.
     ghost refused: { (command : Self) (input : List ℕ) (read : Read) (fault : Fault)
@@ -93,12 +92,29 @@ pub(crate) fn run_whole<C: Command, R: Source, W: Sink>(
     source: &mut R,
     sink: &mut W,
 ) -> Result<(), KitFault>
-    ensures { RunsCommand (C.is_due command.now) (C.is_first_fault command.now)
+    ensures { RunsCommand (IsAnswerTo (C.needed command.now) (C.is_due command.now))
+        (C.is_first_fault command.now)
         (source_run R.remaining R.counts source.old source.new)
         (sink_run W.contents W.failures sink.old sink.new) result }
 {
     let input = read_all(alloc, source)?;
     let answer = read_and_answer(alloc, command, &input)?;
+    write_answer(alloc, command, sink, answer)
+}
+
+/// Writes the text of the command's answer to parts that were read.
+pub(crate) fn run_parts<C: Command, W: Sink>(
+    alloc: Global,
+    command: &C,
+    parts: &Parts<'_>,
+    sink: &mut W,
+) -> Result<(), KitFault>
+    requires { HasNeeded (C.needed command.now) parts.now }
+    ensures { RunsParts (C.is_due command.now parts.now)
+        (λ fault. C.is_fault command.now fault parts.now)
+        (sink_run W.contents W.failures sink.old sink.new) result }
+{
+    let answer = command.answer(alloc, parts)?;
     write_answer(alloc, command, sink, answer)
 }
 

@@ -39,7 +39,7 @@ struct Make;
 
 impl Command for Make {
     ghost use Rattle.std.specs.Prelude.{string_bytes};
-    ghost use Rattle.metric_kit_commands.specs.Certifying.{IsCertificateText as IsText, IsCertified as IsOfParts, IsFirstMakeFault as IsFirst, IsMakeFault as IsFault, make_refused};
+    ghost use Rattle.metric_kit_commands.specs.Certifying.{IsCertified as IsOfParts, IsFirstMakeFault as IsFirst, IsMakeFault as IsFault, make_refused};
     ghost use Rattle.metric_kit_commands.specs.Showing.{show_needs};
 
     type Answer = String;
@@ -50,7 +50,7 @@ impl Command for Make {
 
     ghost is_fault = { λ _. IsFault };
 
-    ghost is_due = { λ _. IsText };
+    ghost is_due = { λ _. IsOfParts };
 
     ghost is_first_fault = { λ _. IsFirst };
 
@@ -71,7 +71,7 @@ impl Command for Make {
         write_text(sink, text.as_bytes())
     }
 
-    ghost answered = { λ _ _ read _ is_read certified. record { read = read; is_read = is_read; certified = certified } };
+    ghost answered = { λ _ _ _ certified. certified };
 
     ghost refused = { λ _. make_refused };
 

@@ -1,12 +1,12 @@
 //! A script replayed, of which the last batches of a reader are written, as a page has them.
 ghost use Rattle.std.specs.Prelude.{◌≡◌, ◌++◌, false, IfErr, IfOk, IsSome, OnOk};
 ghost use Rattle.std.specs.Option.{option_copied};
-ghost use Rattle.metric_kit_commands.specs.Commands.{RunsCommand, sink_run, source_run};
+ghost use Rattle.metric_kit_commands.specs.Commands.{HasNeeded, RunsParts, sink_run};
 ghost use Rattle.metric_kit_commands.specs.Faults.{IsOfInput};
 ghost use Rattle.metric_kit_commands.specs.Pages.{IsPage, batch_of, last_batch, last_lines, lines_of_last, page_text};
-ghost use Rattle.metric_kit_commands.specs.Replaying.{IsAnswered, IsFirstFault, IsReplayFault, plain_options};
+ghost use Rattle.metric_kit_commands.specs.Replaying.{AreReplies, IsAnswered, IsReplayFault, needs_of, plain_options};
 
-use crate::command::{Command, run_whole};
+use crate::command::{Command, run_parts};
 use crate::fault::KitFault;
 use crate::options::ReplayOptions;
 use crate::parts::write_text;
@@ -16,7 +16,7 @@ use crate::replays::plain_options;
 use metric_core::Core;
 use metric_export::Encoding;
 use metric_history::{Batch, Reply};
-use metric_io::{Sink, Source};
+use metric_io::Sink;
 use metric_marked::Marked;
 use metric_parts::{Needs, Parts};
 use metric_plan::Plan;
@@ -35,27 +35,46 @@ pub struct PageForm<'a, E> {
     pub tail: &'a [u8],
 }
 
-/// [`replay`](crate::replay) without an audit, which writes one page: what it begins with, the last batch that the
-/// reader collected of each instrument in the order of the catalogue, each in an encoding, and what it ends with.
-/// Memory holds all replies.
+/// [`replay_parts`](crate::replay_parts) without an audit, which writes one page: what it begins with, the last batch
+/// that the reader collected of each instrument in the order of the catalogue, each in an encoding, and what it ends
+/// with. Memory holds all replies.
 ///
 /// # Errors
 ///
-/// Those of [`replay`](crate::replay).
-pub fn replay_page<E: Encoding, R: Source, W: Sink>(
+/// Those of [`replay_parts`](crate::replay_parts).
+pub fn replay_page<E: Encoding, W: Sink>(
     alloc: Global,
     trial: bool,
     form: &PageForm<'_, E>,
-    source: &mut R,
+    parts: &Parts<'_>,
     sink: &mut W,
 ) -> Result<(), KitFault>
-    ensures { RunsCommand (IsPage (E.text form.now.encoding.now) form.now.reader
-        form.now.head.now form.now.tail.now (plain_options trial))
-        (IsFirstFault (plain_options trial))
-        (source_run R.remaining R.counts source.old source.new)
+    requires { HasNeeded (needs_of (plain_options trial)) parts.now }
+    ensures { RunsParts (IsPage (E.text form.now.encoding.now) form.now.reader
+        form.now.head.now form.now.tail.now (plain_options trial) parts.now)
+        (λ fault. IsReplayFault (plain_options trial) fault parts.now)
         (sink_run W.contents W.failures sink.old sink.new) result }
 {
-    run_whole(alloc, &PageReplay { trial, form }, source, sink)
+    run_parts(alloc, &PageReplay { trial, form }, parts, sink)
+}
+
+/// The replies to the script of parts, without an audit.
+///
+/// # Errors
+///
+/// The first fault of the parts, or [`KitFault::Memory`].
+pub fn replies_of(alloc: Global, trial: bool, parts: &Parts<'_>) -> Result<Vec<Reply>, KitFault>
+    requires { HasNeeded (needs_of (plain_options trial)) parts.now }
+    ensures replies { IfOk result (λ replies.
+        AreReplies (plain_options trial) parts.now replies.items) }
+    ensures first { IfErr result (λ fault. IsReplayFault (plain_options trial) fault parts.now) }
+    ensures own { IfErr result IsOfInput }
+{
+    let PageRun {
+        core: _core,
+        replies,
+    } = page_run(alloc, plain_options(trial), parts)?;
+    Ok(replies)
 }
 
 // A replay of which a page is written.
@@ -174,11 +193,11 @@ fn batch_of<'a>(reply: &'a Reply, reader: u32, instrument: u32) -> Option<&'a Ba
 impl<E: Encoding> Command for PageReplay<'_, E> {
     ghost use Rattle.std.proofs.Common.{inl, refl};
     ghost use Rattle.metric_kit_commands.specs.Pages.{IsPage as IsPageOf, page_text as page_text_of};
-    ghost use Rattle.metric_kit_commands.specs.Replaying.{IsAnswered as IsAnsweredRun, IsFirstFault as IsFirst, IsReplayFault as IsFault, needs_of, plain_options as options_of, replay_refused};
+    ghost use Rattle.metric_kit_commands.specs.Replaying.{IsAnswered as IsAnsweredRun, IsFirstFault as IsFirst, IsReplayFault as IsFault, needs_of as parts_needed, plain_options as options_of, replay_refused};
 
     type Answer = PageRun;
 
-    ghost needed = { λ c. needs_of (options_of c.trial) };
+    ghost needed = { λ c. parts_needed (options_of c.trial) };
 
     ghost is_answer = { λ c read run. IsAnsweredRun (options_of c.trial) read run.core.plan run.replies.items };
 
@@ -204,10 +223,10 @@ impl<E: Encoding> Command for PageReplay<'_, E> {
         write_text(sink, &text)
     }
 
-    ghost answered = { λ _ _ read run is_read known. record {
+    ghost answered = { λ _ _ run known. record {
       plan = run.core.plan;
       replies = run.replies.items;
-      replayed = record { read = read; is_read = is_read; answered = known };
+      answered = known;
       written = refl;
     } };
 

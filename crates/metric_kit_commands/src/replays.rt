@@ -1,11 +1,11 @@
 //! A script replayed against a catalogue and a config.
 ghost use Rattle.std.specs.Prelude.{◌≡◌, false, IfErr, IfOk, IsSome};
-ghost use Rattle.metric_kit_commands.specs.Commands.{RunsCommand, sink_run, source_run};
+ghost use Rattle.metric_kit_commands.specs.Commands.{HasNeeded, RunsCommand, RunsParts, sink_run, source_run};
 ghost use Rattle.metric_kit_commands.specs.Faults.{IsOfInput};
-ghost use Rattle.metric_kit_commands.specs.Replaying.{IsAuditedRun, IsEncodedOutput, IsFirstFault, IsOutput, IsReplayFault, plain_options};
+ghost use Rattle.metric_kit_commands.specs.Replaying.{IsAuditedRun, IsEncodedOutput, IsFirstFault, IsOutput, IsOutputOf, IsReplayFault, needs_of, plain_options};
 
 use crate::audits::audited_replies;
-use crate::command::{Command, run_whole};
+use crate::command::{Command, run_parts, run_whole};
 use crate::fault::KitFault;
 use crate::forms::{Encoded, Printed, ReplyForm};
 use crate::options::ReplayOptions;
@@ -52,26 +52,51 @@ pub fn replay<R: Source, W: Sink>(
     }
 }
 
-/// [`replay`] without an audit, which writes batches alone: the bytes of each in an encoding, in the order of the
+/// [`replay`] of parts that were read. The lines of faults are those of the script.
+///
+/// # Errors
+///
+/// Those of [`replay`], but for the source, and the first fault is that of the parts.
+pub fn replay_parts<W: Sink>(
+    alloc: Global,
+    options: ReplayOptions,
+    parts: &Parts<'_>,
+    sink: &mut W,
+) -> Result<(), KitFault>
+    requires { HasNeeded (needs_of options) parts.now }
+    ensures { RunsParts (IsOutputOf options parts.now)
+        (λ fault. IsReplayFault options fault parts.now)
+        (sink_run W.contents W.failures sink.old sink.new) result }
+{
+    let trial = options.trial;
+    if options.audit {
+        run_parts(alloc, &AuditedReplay { trial }, parts, sink)
+    } else {
+        let form = &Printed;
+        run_parts(alloc, &FormedReplay { trial, form }, parts, sink)
+    }
+}
+
+/// [`replay_parts`] without an audit, which writes batches alone: the bytes of each in an encoding, in the order of the
 /// replies, and nothing of any other reply.
 ///
 /// # Errors
 ///
-/// Those of [`replay`].
-pub fn replay_encoded<E: Encoding, R: Source, W: Sink>(
+/// Those of [`replay_parts`].
+pub fn replay_encoded<E: Encoding, W: Sink>(
     alloc: Global,
     trial: bool,
     encoding: &E,
-    source: &mut R,
+    parts: &Parts<'_>,
     sink: &mut W,
 ) -> Result<(), KitFault>
-    ensures { RunsCommand (IsEncodedOutput (E.text encoding.now) (plain_options trial))
-        (IsFirstFault (plain_options trial))
-        (source_run R.remaining R.counts source.old source.new)
+    requires { HasNeeded (needs_of (plain_options trial)) parts.now }
+    ensures { RunsParts (IsEncodedOutput (E.text encoding.now) (plain_options trial) parts.now)
+        (λ fault. IsReplayFault (plain_options trial) fault parts.now)
         (sink_run W.contents W.failures sink.old sink.new) result }
 {
     let form = &Encoded { encoding };
-    run_whole(alloc, &FormedReplay { trial, form }, source, sink)
+    run_parts(alloc, &FormedReplay { trial, form }, parts, sink)
 }
 
 // A replay without an audit, of which the replies are written in a form.
@@ -87,13 +112,13 @@ impl<F: ReplyForm> Command for FormedReplay<'_, F> {
     ghost use Rattle.metric_core.specs.CoreStands.{CoreStands};
     ghost use Rattle.metric_marked.specs.Marks.{StandsMarked};
     ghost use Rattle.metric_kit_commands.specs.DueRuns.{is_due_run};
-    ghost use Rattle.metric_kit_commands.specs.Replaying.{IsFirstFault as IsFirst, IsFormed as IsText, IsPrepared as IsOfParts, IsReplayFault as IsFault, needs_of, plain_options as options_of, replay_refused};
+    ghost use Rattle.metric_kit_commands.specs.Replaying.{IsFirstFault as IsFirst, IsFormed as IsText, IsPrepared as IsOfParts, IsReplayFault as IsFault, needs_of as parts_needed, plain_options as options_of, replay_refused};
     ghost use Rattle.metric_kit_commands.specs.Runs.{due_replies};
     ghost use Rattle.metric_kit_commands.specs.WrittenRuns.{due_text};
 
     type Answer = PreparedRun<Marked>;
 
-    ghost needed = { λ c. needs_of (options_of c.trial) };
+    ghost needed = { λ c. parts_needed (options_of c.trial) };
 
     ghost is_answer = { λ c read run. IsOfParts (options_of c.trial) read run.core.plan run.core.start run.events
         × CoreStands StandsMarked run.core [] };
@@ -128,21 +153,17 @@ impl<F: ReplyForm> Command for FormedReplay<'_, F> {
         write_run(alloc, sink, self.form, &mut core, events.as_slice())
     }
 
-    ghost answered = { λ _ _ read run is_read known. record {
+    ghost answered = { λ _ _ run known. record {
       plan = run.core.plan;
       replies = due_replies run.core.plan.facts run.core.start [] run.events;
-      replayed = record {
-        read = read;
-        is_read = is_read;
-        answered = record {
-          script = known.0.script;
-          start = run.core.start;
-          events = run.events;
-          is_planned = known.0.is_planned;
-          has_script = known.0.has_script;
-          is_script = known.0.is_script;
-          run = is_due_run run.core.plan run.core.start run.events;
-        };
+      answered = record {
+        script = known.0.script;
+        start = run.core.start;
+        events = run.events;
+        is_planned = known.0.is_planned;
+        has_script = known.0.has_script;
+        is_script = known.0.is_script;
+        run = is_due_run run.core.plan run.core.start run.events;
       };
       written = refl;
     } };
@@ -209,12 +230,12 @@ fn audited_run(
 impl Command for AuditedReplay {
     ghost use Rattle.std.specs.Prelude.{ℕ, ◌++◌};
     ghost use Rattle.std.proofs.Common.{ap, inl};
-    ghost use Rattle.metric_kit_commands.specs.Replaying.{IsAuditedRun as IsAudited, IsFirstFault as IsFirst, IsOutput as IsText, IsReplayFault as IsFault, audited_options, needs_of, replay_refused};
+    ghost use Rattle.metric_kit_commands.specs.Replaying.{IsAuditedRun as IsAudited, IsFirstFault as IsFirst, IsOutputOf as IsText, IsReplayFault as IsFault, audited_options, needs_of as parts_needed, replay_refused};
     ghost use Rattle.metric_kit_commands.specs.Replies.{audited_text, replies_text};
 
     type Answer = AuditedRun;
 
-    ghost needed = { λ c. needs_of (audited_options c.trial) };
+    ghost needed = { λ c. parts_needed (audited_options c.trial) };
 
     ghost is_answer = { λ c read run. IsAudited (audited_options c.trial) read run.core.plan run.replies.items run.accepted };
 
@@ -246,10 +267,10 @@ impl Command for AuditedReplay {
         write_audited(alloc, sink, run.core.plan(), &run.replies, run.accepted)
     }
 
-    ghost answered = { λ _ _ read run is_read known. record {
+    ghost answered = { λ _ _ run known. record {
       plan = run.core.plan;
       replies = run.replies.items;
-      replayed = record { read = read; is_read = is_read; answered = known.answered };
+      answered = known.answered;
       audited = λ _. known.audited;
       written = ap (λ (n : ℕ). replies_text run.core.plan run.replies.items ++ audited_text n) known.counted;
     } };

@@ -43,7 +43,7 @@ struct Show;
 
 impl Command for Show {
     ghost use Rattle.metric_kit_commands.specs.Declarations.{IsDeclaredFault as IsFault};
-    ghost use Rattle.metric_kit_commands.specs.Showing.{IsFirstShowFault as IsFirst, IsListed as IsOfParts, IsShown as IsText, listing_text as text_of, show_needs, show_refused};
+    ghost use Rattle.metric_kit_commands.specs.Showing.{IsFirstShowFault as IsFirst, IsListed as IsOfParts, listing_text as text_of, show_needs, show_refused};
 
     type Answer = Listing;
 
@@ -54,7 +54,7 @@ impl Command for Show {
 
     ghost is_fault = { λ _. IsFault };
 
-    ghost is_due = { λ _. IsText };
+    ghost is_due = { λ _. IsOfParts };
 
     ghost is_first_fault = { λ _. IsFirst };
 
@@ -80,7 +80,7 @@ impl Command for Show {
         write_lines(alloc, sink, &listing)
     }
 
-    ghost answered = { λ _ _ read _ is_read listed. record { read = read; is_read = is_read; listed = listed } };
+    ghost answered = { λ _ _ _ listed. listed };
 
     ghost refused = { λ _. show_refused };
 

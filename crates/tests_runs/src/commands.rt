@@ -11,7 +11,9 @@ use metric_export::Plain;
 use metric_io::{CutSink, CutSource};
 use metric_kit_commands::{KitFault, replay_encoded};
 use metric_kit_program::run_line;
+use metric_parts::{Needs, parts_of};
 use metric_provider::FinishFault;
+use metric_text::lines;
 use std::alloc::Global;
 use std::process::Abort;
 use std::sync::Wait;
@@ -264,12 +266,18 @@ fn words_without_a_command_are_told(rt: HostRuntime) {
     }
 }
 
-// What a trial writes of its batches alone, in the project's own text.
-fn batches_alone<R: Abort>(rt: &R, alloc: Global, parts: Parts) -> String {
-    let input = parts.concat(alloc).or_fail(rt);
-    let mut source = CutSource::new(input.as_bytes(), None);
+// What a trial needs of its input.
+const TRIED: Needs = Needs {
+    certificate: false,
+    script: true,
+};
+
+// What a trial of an input writes of its batches alone, in the project's own text.
+fn batches_alone<R: Abort>(rt: &R, alloc: Global, input: &str) -> String {
+    let lines = lines(alloc, input.as_bytes()).or_fail(rt);
+    let parts = parts_of(alloc, &lines, TRIED).or_fail(rt);
     let mut sink = CutSink::new(alloc, None);
-    replay_encoded(alloc, true, &Plain, &mut source, &mut sink).or_fail(rt);
+    replay_encoded(alloc, true, &Plain, &parts, &mut sink).or_fail(rt);
     String::from_str(alloc, str::from_utf8(sink.taken()).or_fail(rt)).or_fail(rt)
 }
 
@@ -291,7 +299,8 @@ fn batches_in<R: Abort>(rt: &R, alloc: Global, replies: &str) -> String {
 #[test]
 fn batches_are_written_alone_in_an_encoding(rt: HostRuntime) {
     for (parts, wanted) in RUNS {
-        let told = batches_alone(&rt, rt.alloc(), parts);
+        let input = parts.concat(rt.alloc()).or_fail(&rt);
+        let told = batches_alone(&rt, rt.alloc(), input.as_str());
         let batches = batches_in(&rt, rt.alloc(), wanted);
         assert_equal(&rt, told.as_str(), batches.as_str());
     }

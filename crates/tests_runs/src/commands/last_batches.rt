@@ -1,8 +1,11 @@
 //! Pages of replays: the last batch of a reader of each instrument, between what a page begins and ends with.
 use crate::asserted::{OrFail, assert_equal};
+use crate::commands::{TRIED, batches_alone};
 use metric_export::Plain;
-use metric_io::{CutSink, CutSource};
-use metric_kit_commands::{PageForm, replay_encoded, replay_page};
+use metric_io::CutSink;
+use metric_kit_commands::{PageForm, replay_page};
+use metric_parts::parts_of;
+use metric_text::lines;
 use std::alloc::Global;
 use std::process::Abort;
 
@@ -77,12 +80,10 @@ fn input_of<R: Abort>(rt: &R, alloc: Global, script: &str) -> String {
 
 // The batches of a script one after the other, as a page begins and ends.
 fn wanted<R: Abort>(rt: &R, alloc: Global, script: &str) -> String {
-    let input = input_of(rt, alloc, script);
-    let mut source = CutSource::new(input.as_bytes(), None);
-    let mut sink = CutSink::new(alloc, None);
-    replay_encoded(alloc, true, &Plain, &mut source, &mut sink).or_fail(rt);
-    let batches = str::from_utf8(sink.taken()).or_fail(rt);
-    ["head\n", batches, "tail\n"].concat(alloc).or_fail(rt)
+    let batches = batches_alone(rt, alloc, input_of(rt, alloc, script).as_str());
+    ["head\n", batches.as_str(), "tail\n"]
+        .concat(alloc)
+        .or_fail(rt)
 }
 
 fn page_of<R: Abort>(rt: &R, alloc: Global, reader: u32) -> String {
@@ -93,9 +94,10 @@ fn page_of<R: Abort>(rt: &R, alloc: Global, reader: u32) -> String {
         tail: "tail\n".as_bytes(),
     };
     let input = input_of(rt, alloc, SCRIPT);
-    let mut source = CutSource::new(input.as_bytes(), None);
+    let lines = lines(alloc, input.as_bytes()).or_fail(rt);
+    let parts = parts_of(alloc, &lines, TRIED).or_fail(rt);
     let mut sink = CutSink::new(alloc, None);
-    replay_page(alloc, true, &form, &mut source, &mut sink).or_fail(rt);
+    replay_page(alloc, true, &form, &parts, &mut sink).or_fail(rt);
     String::from_str(alloc, str::from_utf8(sink.taken()).or_fail(rt)).or_fail(rt)
 }
 

@@ -1,5 +1,6 @@
 use Rattle.std.proofs.Common.{Err, ap}
 use Rattle.std.proofs.KnownBytes.{Keeps-refl}
+use Rattle.metric_kit_commands.specs.Commands.{IsAnswerTo}
 use Rattle.metric_kit_commands.specs.RunLaws.{answered, refused, unread}
 use Rattle.metric_kit_commands.proofs.command.run_whole.Goals as goal
 
@@ -16,8 +17,12 @@ returns-in_err-answer g c =
 
 pub returns : goal.returns
 returns g c =
+    let due : IsAnswerTo (g.C.Command.needed c.args.command.now) (g.C.Command.is_due c.args.command.now) c.deref.result.now (g.C.Command.text c.args.command.now c.in_ok-answer.answer) =
+    record {
+      read = c.in_ok-answer.ensures.ok.read;
+      is_read = c.in_ok-answer.ensures.ok.is_read;
+      is_answer = g.met.C.Command.answered c.args.command.now c.in_ok-answer.ensures.ok.read c.in_ok-answer.answer c.in_ok-answer.ensures.ok.is_answer;
+    } in
     answered _ _ _ _ c.write_answer.result c.in_ok-input.input.items c.deref.result.now (g.C.Command.text c.args.command.now c.in_ok-answer.answer)
-    c.in_ok-input.ensures.bytes c.deref.ensures.value
-    (g.met.C.Command.answered c.args.command.now c.deref.result.now _ c.in_ok-answer.answer c.in_ok-answer.ensures.ok.is_read c.in_ok-answer.ensures.ok.is_answer)
-    c.write_answer.ensures.ok c.write_answer.ensures.prefix c.write_answer.ensures.broken
+    c.in_ok-input.ensures.bytes c.deref.ensures.value due c.write_answer.ensures.ok c.write_answer.ensures.prefix c.write_answer.ensures.broken
     c.read_all.ensures.reads
