@@ -6,7 +6,7 @@ use Rattle.metric_command_lines.specs.declared.wormweekly.request.Files.{Files}
 use Rattle.wormweekly_commands.specs.Faults.{IsDeliveryFault, IsDeviceFault, IsRefusal, IsRefused, IsUnread}
 use Rattle.wormweekly_commands.specs.Runs.{IsUnstarted}
 use Rattle.wormweekly_commands.specs.declared.fault.ConsoleFault.{ConsoleFault}
-use Rattle.wormweekly_commands.specs.declared.fault.ConsoleFault.TheVariants.{Kit, Header, Overwrites, Page}
+use Rattle.wormweekly_commands.specs.declared.fault.ConsoleFault.TheVariants.{Kit, Overwrites, Page}
 use Rattle.wormweekly_commands.specs.declared.fault.ConsoleFault.TheVariants as faults
 
 pub device_is_not_refused : (fault : KitFault) → IsDeviceFault fault → IsRefused fault → ⊥
@@ -27,7 +27,6 @@ pub delivery_is_no_refusal : (fault : ConsoleFault) → IsDeliveryFault fault �
 delivery_is_no_refusal (faults.Unread role cause) delivery refused = delivery
 delivery_is_no_refusal (Overwrites role) delivery refused = delivery
 delivery_is_no_refusal (faults.Unwritten cause) delivery refused = refused
-delivery_is_no_refusal (Header role) delivery refused = delivery
 delivery_is_no_refusal (Page fault) delivery refused = delivery
 delivery_is_no_refusal (faults.Old fault) delivery refused = delivery
 delivery_is_no_refusal (Kit fault) delivery refused = device_is_not_refused fault delivery refused
@@ -37,7 +36,6 @@ pub unread_is_unstarted : (same : List ℕ → List ℕ → Option Bool) (files 
 unread_is_unstarted same files (faults.Unread role cause) unread = tt
 unread_is_unstarted same files (Overwrites role) unread = absurd unread
 unread_is_unstarted same files (faults.Unwritten cause) unread = unread
-unread_is_unstarted same files (Header role) unread = unread
 unread_is_unstarted same files (Page fault) unread = unread
 unread_is_unstarted same files (faults.Old fault) unread = unread
 unread_is_unstarted same files (Kit fault) unread = unread

@@ -1,3 +1,4 @@
+pub mod PartsNeeded
 pub mod Devices
 pub mod OnlyReaders
 pub mod PageEnds

@@ -17,7 +17,7 @@ use Rattle.metric_kit_commands.specs.declared.fault.KitFault.{KitFault}
 use Rattle.metric_kit_commands.specs.declared.fault.KitFault.TheVariants.{Memory}
 use Rattle.wormweekly_commands.specs.Paging.{IsHead, IsPageEnd, IsPageReplay, IsReaderAsked, IsReaderFound, IsReaderRead, ReplaysPage, label_fault, of_target, page_reader}
 use Rattle.wormweekly_commands.specs.declared.fault.ConsoleFault.{ConsoleFault}
-use Rattle.wormweekly_commands.specs.declared.fault.ConsoleFault.TheVariants.{Kit, Header, Overwrites, Page}
+use Rattle.wormweekly_commands.specs.declared.fault.ConsoleFault.TheVariants.{Kit, Overwrites, Page}
 use Rattle.wormweekly_commands.specs.declared.fault.ConsoleFault.TheVariants as faults
 
 -- out of memory is a fault of any parts
@@ -39,52 +39,48 @@ pub of_declared : (name : Option (List ℕ)) (parts : Parts) (contents : Content
 of_declared name parts contents config (Ok reader) declared is = record { contents = contents; config = config; declared = declared; is = is }
 of_declared name parts contents config (Err (Page fault)) declared is = record { contents = contents; config = config; declared = declared; is = is }
 of_declared name parts contents config (Err (Kit fault)) declared is = of_memory parts fault is
-of_declared name parts contents config (Err (Header role)) declared is = is
 of_declared name parts contents config (Err (Overwrites role)) declared is = is
 of_declared name parts contents config (Err (faults.Unread role cause)) declared is = is
 of_declared name parts contents config (Err (faults.Unwritten cause)) declared is = is
 of_declared name parts contents config (Err (faults.Old fault)) declared is = is
 
-pub of_head : (request : Request) (parts : Parts) (dialect : Dialect) (trial : Bool) (input : List ℕ) (sink : SinkRun) (fault : ConsoleFault)
-    → IsHead dialect request.resource (Err fault) → sink.contents_after ≡ sink.contents → ReplaysPage request parts dialect trial input sink (Err fault)
-of_head request parts dialect trial input sink (Kit fault) head same = inl (of_memory parts fault head, same)
-of_head request parts dialect trial input sink (Page fault) head same = (inl head, same)
-of_head request parts dialect trial input sink (Header role) head same = head
-of_head request parts dialect trial input sink (Overwrites role) head same = head
-of_head request parts dialect trial input sink (faults.Old fault) head same = head
-of_head request parts dialect trial input sink (faults.Unread role cause) head same = head
-of_head request parts dialect trial input sink (faults.Unwritten cause) head same = head
+pub of_head : (request : Request) (parts : Parts) (dialect : Dialect) (trial : Bool) (sink : SinkRun) (fault : ConsoleFault)
+    → IsHead dialect request.resource (Err fault) → sink.contents_after ≡ sink.contents → ReplaysPage request parts dialect trial sink (Err fault)
+of_head request parts dialect trial sink (Kit fault) head same = inl (of_memory parts fault head, same)
+of_head request parts dialect trial sink (Page fault) head same = (inl head, same)
+of_head request parts dialect trial sink (Overwrites role) head same = head
+of_head request parts dialect trial sink (faults.Old fault) head same = head
+of_head request parts dialect trial sink (faults.Unread role cause) head same = head
+of_head request parts dialect trial sink (faults.Unwritten cause) head same = head
 
-pub of_reader : (request : Request) (parts : Parts) (dialect : Dialect) (trial : Bool) (input : List ℕ) (sink : SinkRun) (fault : ConsoleFault)
+pub of_reader : (request : Request) (parts : Parts) (dialect : Dialect) (trial : Bool) (sink : SinkRun) (fault : ConsoleFault)
     → target_check request.resource ≡ Ok tt → IsReaderRead request.reader parts (Err fault) → sink.contents_after ≡ sink.contents
-    → ReplaysPage request parts dialect trial input sink (Err fault)
-of_reader request parts dialect trial input sink (Kit fault) passes read same = inl (read, same)
-of_reader request parts dialect trial input sink (Page fault) passes read same = (inr (passes, read), same)
-of_reader request parts dialect trial input sink (Header role) passes read same = read
-of_reader request parts dialect trial input sink (Overwrites role) passes read same = read
-of_reader request parts dialect trial input sink (faults.Old fault) passes read same = read
-of_reader request parts dialect trial input sink (faults.Unread role cause) passes read same = read
-of_reader request parts dialect trial input sink (faults.Unwritten cause) passes read same = read
+    → ReplaysPage request parts dialect trial sink (Err fault)
+of_reader request parts dialect trial sink (Kit fault) passes read same = inl (read, same)
+of_reader request parts dialect trial sink (Page fault) passes read same = (inr (passes, read), same)
+of_reader request parts dialect trial sink (Overwrites role) passes read same = read
+of_reader request parts dialect trial sink (faults.Old fault) passes read same = read
+of_reader request parts dialect trial sink (faults.Unread role cause) passes read same = read
+of_reader request parts dialect trial sink (faults.Unwritten cause) passes read same = read
 
-pub of_end : (request : Request) (parts : Parts) (dialect : Dialect) (reader : ℕ) (head : List ℕ) (trial : Bool) (input : List ℕ) (sink : SinkRun) (result : Result (Unit {0}) ConsoleFault)
+pub of_end : (request : Request) (parts : Parts) (dialect : Dialect) (reader : ℕ) (head : List ℕ) (trial : Bool) (sink : SinkRun) (result : Result (Unit {0}) ConsoleFault)
     → target_check request.resource ≡ Ok tt → head ≡ target_text dialect request.resource → IsReaderAsked request.reader parts (Ok reader)
-    → IsPageEnd dialect reader head trial input sink result → ReplaysPage request parts dialect trial input sink result
-of_end request parts dialect reader head trial input sink (Ok done) passes is asked end = record {
+    → IsPageEnd dialect reader head trial parts sink result → ReplaysPage request parts dialect trial sink result
+of_end request parts dialect reader head trial sink (Ok done) passes is asked end = record {
   reader = reader;
   labelled = passes;
   asked = asked;
-  printed = subst (λ (h : List ℕ). IsPageReplay dialect reader h (end_text dialect) trial input sink (Ok tt)) is end;
+  printed = subst (λ (h : List ℕ). IsPageReplay dialect reader h (end_text dialect) trial parts sink (Ok tt)) is end;
 }
-of_end request parts dialect reader head trial input sink (Err (Kit fault)) passes is asked (inl end) = inl (of_memory parts fault end.0, end.1)
-of_end request parts dialect reader head trial input sink (Err (Kit fault)) passes is asked (inr end) = inr (record {
+of_end request parts dialect reader head trial sink (Err (Kit fault)) passes is asked (inl end) = inl (of_memory parts fault end.0, end.1)
+of_end request parts dialect reader head trial sink (Err (Kit fault)) passes is asked (inr end) = inr (record {
   reader = reader;
   labelled = passes;
   asked = asked;
-  printed = subst (λ (h : List ℕ). IsPageReplay dialect reader h (end_text dialect) trial input sink (Err fault)) is end;
+  printed = subst (λ (h : List ℕ). IsPageReplay dialect reader h (end_text dialect) trial parts sink (Err fault)) is end;
 })
-of_end request parts dialect reader head trial input sink (Err (Page fault)) passes is asked end = absurd end
-of_end request parts dialect reader head trial input sink (Err (Header role)) passes is asked end = end
-of_end request parts dialect reader head trial input sink (Err (Overwrites role)) passes is asked end = end
-of_end request parts dialect reader head trial input sink (Err (faults.Old fault)) passes is asked end = end
-of_end request parts dialect reader head trial input sink (Err (faults.Unread role cause)) passes is asked end = end
-of_end request parts dialect reader head trial input sink (Err (faults.Unwritten cause)) passes is asked end = end
+of_end request parts dialect reader head trial sink (Err (Page fault)) passes is asked end = absurd end
+of_end request parts dialect reader head trial sink (Err (Overwrites role)) passes is asked end = end
+of_end request parts dialect reader head trial sink (Err (faults.Old fault)) passes is asked end = end
+of_end request parts dialect reader head trial sink (Err (faults.Unread role cause)) passes is asked end = end
+of_end request parts dialect reader head trial sink (Err (faults.Unwritten cause)) passes is asked end = end

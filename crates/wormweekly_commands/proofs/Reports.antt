@@ -15,7 +15,6 @@ pub pair_is_refused : (texts : Texts) (old : Parts) (fault : ConsoleFault) → t
 pair_is_refused texts old (faults.Unread role cause) is refused = refused
 pair_is_refused texts old (faults.Overwrites role) is refused = refused
 pair_is_refused texts old (faults.Unwritten cause) is refused = tt
-pair_is_refused texts old (faults.Header role) is refused = refused
 pair_is_refused texts old (faults.Page fault) is refused = refused
 pair_is_refused texts old (faults.Old fault) is refused = subst (λ (o : Option Parts). IsSomeAnd o (λ parts. IsDeclaredFault fault parts)) (sym is) refused
 pair_is_refused texts old (faults.Kit fault) is refused = refused
@@ -27,7 +26,6 @@ pub delivery_refuses : (texts : Texts) (fault : ConsoleFault) → IsDeliveryFaul
 delivery_refuses texts (faults.Unread role cause) delivery = delivery
 delivery_refuses texts (faults.Overwrites role) delivery = delivery
 delivery_refuses texts (faults.Unwritten cause) delivery = tt
-delivery_refuses texts (faults.Header role) delivery = delivery
 delivery_refuses texts (faults.Page fault) delivery = delivery
 delivery_refuses texts (faults.Old fault) delivery = absurd delivery
 delivery_refuses texts (faults.Kit fault) delivery = inl delivery

@@ -16,7 +16,6 @@ pub pair_refused : (texts : Texts) (old : Parts) (fault : ConsoleFault) → text
 pair_refused texts old (faults.Unread role cause) is refused = absurd refused
 pair_refused texts old (faults.Overwrites role) is refused = refused
 pair_refused texts old (faults.Unwritten cause) is refused = refused
-pair_refused texts old (faults.Header role) is refused = refused
 pair_refused texts old (faults.Page fault) is refused = refused
 pair_refused texts old (faults.Old fault) is refused = subst (λ (o : Option Parts). IsSomeAnd o (λ parts. IsDeclaredFault fault parts)) (sym is) refused
 pair_refused texts old (faults.Kit fault) is refused = refused

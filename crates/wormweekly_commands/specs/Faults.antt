@@ -6,7 +6,7 @@ use Rattle.metric_kit_commands.specs.declared.fault.KitFault.TheVariants as kit
 use Rattle.wormweekly_commands.specs.declared.folder.Unread.{Unread}
 use Rattle.wormweekly_commands.specs.declared.folder.Unread.TheVariants as unread
 use Rattle.wormweekly_commands.specs.declared.fault.ConsoleFault.{ConsoleFault}
-use Rattle.wormweekly_commands.specs.declared.fault.ConsoleFault.TheVariants.{Kit, Header, Overwrites, Page}
+use Rattle.wormweekly_commands.specs.declared.fault.ConsoleFault.TheVariants.{Kit, Overwrites, Page}
 use Rattle.wormweekly_commands.specs.declared.fault.ConsoleFault.TheVariants as faults
 use Rattle.wormweekly_commands.specs.declared.fault.PageFault.{PageFault}
 use Rattle.wormweekly_commands.specs.declared.fault.PageFault.TheVariants as pages
@@ -28,7 +28,6 @@ abbrev pub status_of : ConsoleFault → ℕ
 status_of (faults.Unread role cause) = unread_status cause
 status_of (Overwrites role) = 2
 status_of (faults.Unwritten cause) = 5
-status_of (Header role) = 3
 status_of (Page fault) = page_status fault
 status_of (faults.Old fault) = kit_status fault
 status_of (Kit fault) = kit_status fault
@@ -48,7 +47,6 @@ abbrev pub IsDeliveryFault : ConsoleFault → Type 0
 IsDeliveryFault (faults.Unread role cause) = ⊥
 IsDeliveryFault (Overwrites role) = ⊥
 IsDeliveryFault (faults.Unwritten cause) = Unit {0}
-IsDeliveryFault (Header role) = ⊥
 IsDeliveryFault (Page fault) = ⊥
 IsDeliveryFault (faults.Old fault) = ⊥
 IsDeliveryFault (Kit fault) = IsDeviceFault fault
@@ -63,7 +61,6 @@ abbrev pub IsRefusal : ConsoleFault → Type 0
 IsRefusal (faults.Unread role cause) = Unit {0}
 IsRefusal (Overwrites role) = Unit {0}
 IsRefusal (faults.Unwritten cause) = ⊥
-IsRefusal (Header role) = Unit {0}
 IsRefusal (Page fault) = Unit {0}
 IsRefusal (faults.Old fault) = Unit {0}
 IsRefusal (Kit fault) = IsRefused fault

@@ -1,7 +1,5 @@
 -- The page that a replay prints.
 use Rattle.std.specs.Prelude.{◌≡◌, ◌⊎◌, ℕ, Bool, List, [], ◌∷◌, Option, Some, None, Result, Ok, Err}
-use Rattle.metric_io.specs.Counts.{no_reads}
-use Rattle.metric_io.specs.declared.counts.ReadCounts.{ReadCounts}
 use Rattle.metric_parts.specs.declared.parts.Parts.{Parts}
 use Rattle.metric_contents.specs.declared.attributes.OwnedAttr.{OwnedAttr}
 use Rattle.metric_contents.specs.declared.contents.Contents.{Contents}
@@ -26,10 +24,10 @@ use Rattle.metric_command_lines.specs.declared.wormweekly.request.Form.TheVarian
 use Rattle.metric_command_lines.specs.declared.wormweekly.request.Form.TheVariants.{Prometheus, OpenMetrics}
 use Rattle.metric_command_lines.specs.declared.wormweekly.request.Form.TheVariants.{OpenMetricsCreated}
 use Rattle.metric_command_lines.specs.declared.wormweekly.request.Request.{Request}
-use Rattle.metric_kit_commands.specs.Commands.{RunsCommand, SinkRun}
+use Rattle.metric_kit_commands.specs.Commands.{RunsParts, SinkRun}
 use Rattle.metric_kit_commands.specs.Declarations.{IsDeclared, IsDeclaredFault}
 use Rattle.metric_kit_commands.specs.Pages.{IsPage}
-use Rattle.metric_kit_commands.specs.Replaying.{IsFirstFault, plain_options}
+use Rattle.metric_kit_commands.specs.Replaying.{IsReplayFault, plain_options}
 use Rattle.metric_kit_commands.specs.declared.fault.KitFault.{KitFault}
 use Rattle.metric_kit_commands.specs.declared.fault.KitFault.TheVariants.{Memory}
 use Rattle.wormweekly_commands.specs.PageReaders.{reader_asked}
@@ -111,32 +109,31 @@ IsHead dialect resource (Err _) = ⊥
 abbrev pub page_lines : Dialect → PlanValue → Batch → List ℕ
 page_lines dialect plan batch = exposition dialect plan.facts.contents plan.streams batch
 
--- The replay of an input that stands in memory, of which a page is written.
-pub record IsPageReplay (dialect : Dialect) (reader : ℕ) (head tail : List ℕ) (trial : Bool)
-    (input : List ℕ) (sink : SinkRun) (result : Result (Unit {0}) KitFault) : Type 0 where
-  pub counts_after : ReadCounts
-  pub runs : RunsCommand (IsPage (page_lines dialect) reader head tail (plain_options trial))
-      (IsFirstFault (plain_options trial))
-      (record { input = Some input; counts = no_reads; counts_after = counts_after }) sink result
+-- The replay of parts, of which a page is written.
+abbrev pub IsPageReplay : Dialect → ℕ → List ℕ → List ℕ → Bool → Parts → SinkRun
+    → Result (Unit {0}) KitFault → Type 0
+IsPageReplay dialect reader head tail trial parts sink result =
+    RunsParts (IsPage (page_lines dialect) reader head tail (plain_options trial) parts)
+    (λ fault. IsReplayFault (plain_options trial) fault parts) sink result
 
 -- The page of a reader behind a head, or out of memory before it.
-abbrev pub IsPageEnd : Dialect → ℕ → List ℕ → Bool → List ℕ → SinkRun
+abbrev pub IsPageEnd : Dialect → ℕ → List ℕ → Bool → Parts → SinkRun
     → Result (Unit {0}) ConsoleFault → Type 0
-IsPageEnd dialect reader head trial input sink (Ok done) =
-    IsPageReplay dialect reader head (end_text dialect) trial input sink (Ok tt)
-IsPageEnd dialect reader head trial input sink (Err (Kit fault)) =
+IsPageEnd dialect reader head trial parts sink (Ok done) =
+    IsPageReplay dialect reader head (end_text dialect) trial parts sink (Ok tt)
+IsPageEnd dialect reader head trial parts sink (Err (Kit fault)) =
     ((fault ≡ Memory) × (sink.contents_after ≡ sink.contents))
-    ⊎ IsPageReplay dialect reader head (end_text dialect) trial input sink (Err fault)
-IsPageEnd dialect reader head trial input sink (Err _) = ⊥
+    ⊎ IsPageReplay dialect reader head (end_text dialect) trial parts sink (Err fault)
+IsPageEnd dialect reader head trial parts sink (Err _) = ⊥
 
 -- The page of the reader that is asked for, between the target and the end.
 pub record PrintsPage (request : Request) (parts : Parts) (dialect : Dialect) (trial : Bool)
-    (input : List ℕ) (sink : SinkRun) (result : Result (Unit {0}) KitFault) : Type 0 where
+    (sink : SinkRun) (result : Result (Unit {0}) KitFault) : Type 0 where
   pub reader : ℕ
   pub labelled : target_check request.resource ≡ Ok tt
   pub asked : IsReaderAsked request.reader parts (Ok reader)
   pub printed : IsPageReplay dialect reader (target_text dialect request.resource)
-      (end_text dialect) trial input sink result
+      (end_text dialect) trial parts sink result
 
 -- The fault is that of the resource; or this has none, and it is that of the reader.
 abbrev pub IsPageFault : Request → Parts → PageFault → Type 0
@@ -146,13 +143,13 @@ IsPageFault request parts fault =
     × IsReaderAsked request.reader parts (Err fault))
 
 -- The page is printed, or nothing is written and this is the first fault.
-abbrev pub ReplaysPage : Request → Parts → Dialect → Bool → List ℕ → SinkRun
+abbrev pub ReplaysPage : Request → Parts → Dialect → Bool → SinkRun
     → Result (Unit {0}) ConsoleFault → Type 0
-ReplaysPage request parts dialect trial input sink (Ok done) =
-    PrintsPage request parts dialect trial input sink (Ok tt)
-ReplaysPage request parts dialect trial input sink (Err (Page fault)) =
+ReplaysPage request parts dialect trial sink (Ok done) =
+    PrintsPage request parts dialect trial sink (Ok tt)
+ReplaysPage request parts dialect trial sink (Err (Page fault)) =
     IsPageFault request parts fault × (sink.contents_after ≡ sink.contents)
-ReplaysPage request parts dialect trial input sink (Err (Kit fault)) =
+ReplaysPage request parts dialect trial sink (Err (Kit fault)) =
     (IsDeclaredFault fault parts × (sink.contents_after ≡ sink.contents))
-    ⊎ PrintsPage request parts dialect trial input sink (Err fault)
-ReplaysPage request parts dialect trial input sink (Err _) = ⊥
+    ⊎ PrintsPage request parts dialect trial sink (Err fault)
+ReplaysPage request parts dialect trial sink (Err _) = ⊥

@@ -31,7 +31,6 @@ abbrev pub RefusesReport : Texts → ConsoleFault → Type 0
 RefusesReport texts (faults.Unread role cause) = ⊥
 RefusesReport texts (faults.Overwrites role) = ⊥
 RefusesReport texts (faults.Unwritten cause) = Unit {0}
-RefusesReport texts (faults.Header role) = ⊥
 RefusesReport texts (faults.Page fault) = ⊥
 RefusesReport texts (faults.Old fault) = IsSomeAnd texts.old (λ old. IsDeclaredFault fault old)
 RefusesReport texts (faults.Kit fault) = IsDeviceFault fault ⊎ IsDeclaredFault fault texts.parts

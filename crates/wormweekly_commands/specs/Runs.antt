@@ -19,14 +19,14 @@ use Rattle.wormweekly_commands.specs.Delivered.{IsDelivered, IsDeliveredAnswer, 
 use Rattle.wormweekly_commands.specs.Drawing.{IsDrawing}
 use Rattle.wormweekly_commands.specs.Faults.{IsDeviceFault, IsRefusal, status_of}
 use Rattle.wormweekly_commands.specs.Folders.{MadeFile}
-use Rattle.wormweekly_commands.specs.Inputs.{IsReplayIn, input_of}
+use Rattle.wormweekly_commands.specs.Inputs.{IsReplayIn, scripted}
 use Rattle.wormweekly_commands.specs.Paging.{ReplaysPage, dialect_of}
 use Rattle.wormweekly_commands.specs.Readings.{AreTexts, IsHeld}
 use Rattle.wormweekly_commands.specs.Reporting.{IsReport, RefusesReport}
 use Rattle.wormweekly_commands.specs.declared.answer.Answer.{Answer}
 use Rattle.wormweekly_commands.specs.declared.drawing.Drawing.{Drawing}
 use Rattle.wormweekly_commands.specs.declared.fault.ConsoleFault.{ConsoleFault}
-use Rattle.wormweekly_commands.specs.declared.fault.ConsoleFault.TheVariants.{Unread, Header, Kit, Page}
+use Rattle.wormweekly_commands.specs.declared.fault.ConsoleFault.TheVariants.{Unread, Kit, Page}
 use Rattle.wormweekly_commands.specs.declared.fault.ConsoleFault.TheVariants.{Overwrites, Unwritten}
 use Rattle.wormweekly_commands.specs.declared.fault.ConsoleFault.TheVariants as faults
 use Rattle.wormweekly_commands.specs.declared.fault.Role.{Role}
@@ -66,58 +66,48 @@ abbrev pub RefusesFor : Task → Parts → ConsoleFault → Type 0
 RefusesFor task parts (Unread role cause) = parts.certificate ≡ None
 RefusesFor task parts (Overwrites role) = ⊥
 RefusesFor task parts (Unwritten cause) = Unit {0}
-RefusesFor task parts (Header role) = ⊥
 RefusesFor task parts (Page fault) = ⊥
 RefusesFor task parts (faults.Old fault) = ⊥
 RefusesFor task parts (Kit fault) = IsDeviceFault fault ⊎ IsAnswerFault task fault parts
 
--- What a replay of an input comes to in the form that is asked for, which is no page.
-abbrev pub EndsPlain : Request → Bool → List ℕ → SinkRun → Result (Unit {0}) ConsoleFault → Type 0
-EndsPlain request trial input sink (Ok done) =
-    IsReplayIn request.options.form request.resource trial request.options.audit input sink (Ok tt)
-EndsPlain request trial input sink (Err (Kit fault)) =
-    IsReplayIn request.options.form request.resource trial request.options.audit input sink
+-- What a replay of parts comes to in the form that is asked for, which is no page.
+abbrev pub EndsPlain : Request → Parts → Bool → SinkRun → Result (Unit {0}) ConsoleFault → Type 0
+EndsPlain request parts trial sink (Ok done) =
+    IsReplayIn request.options.form request.resource trial request.options.audit parts sink (Ok tt)
+EndsPlain request parts trial sink (Err (Kit fault)) =
+    IsReplayIn request.options.form request.resource trial request.options.audit parts sink
     (Err fault)
-EndsPlain request trial input sink (Err _) = ⊥
+EndsPlain request parts trial sink (Err _) = ⊥
 
 -- The same of a page, and of any other form.
-abbrev pub EndsAs : Option Dialect → Request → Parts → Bool → List ℕ → SinkRun
+abbrev pub EndsAs : Option Dialect → Request → Parts → Bool → SinkRun
     → Result (Unit {0}) ConsoleFault → Type 0
-EndsAs (Some dialect) request parts trial input sink result =
-    ReplaysPage request parts dialect trial input sink result
-EndsAs None request parts trial input sink result = EndsPlain request trial input sink result
+EndsAs (Some dialect) request parts trial sink result =
+    ReplaysPage request parts dialect trial sink result
+EndsAs None request parts trial sink result = EndsPlain request parts trial sink result
 
 -- In the form that is asked for: a trial, where there is no certificate.
-abbrev pub IsReplayEnd : Request → Parts → List ℕ → SinkRun → Result (Unit {0}) ConsoleFault
-    → Type 0
-IsReplayEnd request parts input sink result =
-    EndsAs (dialect_of request.options.form) request parts (not (is_some parts.certificate))
-    input sink result
+abbrev pub IsReplayEnd : Request → Parts → SinkRun → Result (Unit {0}) ConsoleFault → Type 0
+IsReplayEnd request parts sink result =
+    EndsAs (dialect_of request.options.form) request parts (not (is_some parts.certificate)) sink
+    result
 
 -- an end without its status
 abbrev pub done_of : Result ℕ ConsoleFault → Result (Unit {0}) ConsoleFault
 done_of (Ok status) = Ok tt
 done_of (Err fault) = Err fault
 
--- A file has the header of a part, or memory ran out.
-abbrev pub IsStopped : Result ℕ ConsoleFault → Type 0
-IsStopped (Ok status) = ⊥
-IsStopped (Err (Header role)) = Unit {0}
-IsStopped (Err (Kit Memory)) = Unit {0}
-IsStopped (Err _) = ⊥
-
--- The replay of the input that the files make up with a script, and its status.
-pub record EndsScript (request : Request) (parts : Parts) (script : List ℕ) (sink : SinkRun)
+-- The replay of parts with a script, and its status.
+pub record EndsScript (request : Request) (parts : Parts) (sink : SinkRun)
     (end : Result ℕ ConsoleFault) : Type 0 where
   pub status : IfOk end (λ status. status ≡ 0)
-  pub ends : IsReplayEnd request parts
-      (input_of parts.catalogue parts.config parts.certificate script) sink (done_of end)
+  pub ends : IsReplayEnd request parts sink (done_of end)
 
--- It is stopped before it begins, or comes to its end.
+-- Memory runs out before it begins, or it comes to its end.
 abbrev pub ReplaysScript : Request → Parts → List ℕ → SinkRun → Result ℕ ConsoleFault → Type 0
 ReplaysScript request parts script sink end =
-    (IsStopped end × (sink.contents_after ≡ sink.contents))
-    ⊎ EndsScript request parts script sink end
+    ((end ≡ Err (Kit Memory)) × (sink.contents_after ≡ sink.contents))
+    ⊎ EndsScript request (scripted parts script) sink end
 
 -- Nothing is written where there is no script.
 abbrev pub ReplaysText : Request → Parts → Option (List ℕ) → SinkRun → Result ℕ ConsoleFault

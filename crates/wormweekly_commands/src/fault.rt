@@ -71,11 +71,6 @@ pub enum ConsoleFault {
         /// Why.
         cause: Unwritten,
     },
-    /// A line of a file begins with `%% `, so that it cannot be a part of an input to replay.
-    Header {
-        /// Which file.
-        role: Role,
-    },
     /// The replay has no page.
     Page(PageFault),
     /// The fault that `metric_kit` has of the old files of a comparison.
@@ -93,7 +88,6 @@ impl ConsoleFault {
             ConsoleFault::Unread { cause, .. } => unread_status(*cause),
             ConsoleFault::Overwrites { .. } => 2,
             ConsoleFault::Unwritten { .. } => 5,
-            ConsoleFault::Header { .. } => 3,
             ConsoleFault::Page(fault) => page_status(*fault),
             ConsoleFault::Old(fault) => fault.status(),
             ConsoleFault::Kit(fault) => fault.status(),

@@ -29,6 +29,7 @@ mod page_words;
 mod paging;
 mod parts;
 mod program;
+mod refused;
 mod replaying;
 mod report;
 mod report_page;

@@ -1,10 +1,11 @@
 //! A script replayed, of which the page of a reader is printed.
 ghost use Rattle.std.specs.Prelude.{◌≡◌, ◌≤◌, IfOk, Ok, length};
-ghost use Rattle.metric_kit_commands.specs.Commands.{sink_run};
+ghost use Rattle.metric_kit_commands.specs.Commands.{HasNeeded, sink_run};
+ghost use Rattle.metric_kit_commands.specs.Replaying.{needs_of, plain_options};
 ghost use Rattle.metric_exposition.specs.Pages.{end_text};
 ghost use Rattle.metric_exposition.specs.TargetFaults.{target_check};
 ghost use Rattle.metric_exposition.specs.Targets.{target_text};
-ghost use Rattle.wormweekly_commands.specs.Paging.{IsHead, IsPageEnd, IsPageReplay, IsReaderFound, IsReaderRead, ReplaysPage};
+ghost use Rattle.wormweekly_commands.specs.Paging.{IsHead, IsPageEnd, IsReaderFound, IsReaderRead, ReplaysPage};
 ghost use Rattle.wormweekly_commands.specs.PageReaders.{reader_asked};
 ghost use Rattle.wormweekly_commands.specs.Paging.{dialect_of, exposed, exposed_by, of_target, page_reader};
 
@@ -17,7 +18,7 @@ use metric_export::Encoding;
 use metric_exposition::{Dialect, TargetFault, push_end, push_exposition, push_target};
 use metric_exposure::{ExposureFault, Outlet, exposure_faults};
 use metric_history::Batch;
-use metric_io::{CutSource, Sink};
+use metric_io::Sink;
 use metric_kit_commands::{KitFault, PageForm, declared_of, replay_page};
 use metric_parts::Parts;
 use metric_plan::Plan;
@@ -65,7 +66,7 @@ impl Encoding for Lines {
     }
 }
 
-/// Replays an input of parts, and prints the page of what a reader collected last of each instrument, with the
+/// Replays the script of parts, and prints the page of what a reader collected last of each instrument, with the
 /// attributes of the resource. A replay is refused before it begins where these can't be the labels of one line, where
 /// the reader is not known, and where a server would not hold each sample of it.
 pub(crate) fn replay_as_page<W: Sink>(
@@ -74,16 +75,16 @@ pub(crate) fn replay_as_page<W: Sink>(
     dialect: Dialect,
     parts: &Parts<'_>,
     trial: bool,
-    input: &[u8],
     sink: &mut W,
 ) -> Result<(), ConsoleFault>
-    ensures { ReplaysPage request.now parts.now dialect trial input.now
+    requires { HasNeeded (needs_of (plain_options trial)) parts.now }
+    ensures { ReplaysPage request.now parts.now dialect trial
         (sink_run W.contents W.failures sink.old sink.new) result }
 {
     match head_of(alloc, dialect, &request.resource) {
         Ok(head) => {
             let head = head.as_slice();
-            replay_behind(alloc, request, dialect, head, parts, trial, input, sink)
+            replay_behind(alloc, request, dialect, head, parts, trial, sink)
         }
         Err(fault) => Err(fault),
     }
@@ -97,16 +98,16 @@ fn replay_behind<W: Sink>(
     head: &[u8],
     parts: &Parts<'_>,
     trial: bool,
-    input: &[u8],
     sink: &mut W,
 ) -> Result<(), ConsoleFault>
+    requires needed { HasNeeded (needs_of (plain_options trial)) parts.now }
     requires labelled { target_check request.now.resource ≡ Ok tt }
     requires head { head.now ≡ target_text dialect request.now.resource }
-    ensures { ReplaysPage request.now parts.now dialect trial input.now
+    ensures { ReplaysPage request.now parts.now dialect trial
         (sink_run W.contents W.failures sink.old sink.new) result }
 {
     match reader_of(alloc, &request.reader, parts) {
-        Ok(reader) => replay_of(alloc, dialect, head, reader, trial, input, sink),
+        Ok(reader) => replay_of(alloc, dialect, head, reader, parts, trial, sink),
         Err(fault) => Err(fault),
     }
 }
@@ -117,11 +118,12 @@ fn replay_of<W: Sink>(
     dialect: Dialect,
     head: &[u8],
     reader: u32,
+    parts: &Parts<'_>,
     trial: bool,
-    input: &[u8],
     sink: &mut W,
 ) -> Result<(), ConsoleFault>
-    ensures { IsPageEnd dialect reader head.now trial input.now
+    requires { HasNeeded (needs_of (plain_options trial)) parts.now }
+    ensures { IsPageEnd dialect reader head.now trial parts.now
         (sink_run W.contents W.failures sink.old sink.new) result }
 {
     let tail = tail_of(alloc, dialect)?;
@@ -131,7 +133,7 @@ fn replay_of<W: Sink>(
         encoding: &Lines { dialect },
         tail: &tail,
     };
-    print_page(alloc, trial, &form, input, sink)?;
+    replay_page(alloc, trial, &form, parts, sink)?;
     Ok(())
 }
 
@@ -233,20 +235,4 @@ fn exposed_by(faults: &[ExposureFault], reader: u32) -> Result<u32, PageFault>
         None => Ok(reader),
         Some(fault) => Err(PageFault::Exposure(*fault)),
     }
-}
-
-// Replays an input of parts, and prints a page.
-fn print_page<W: Sink>(
-    alloc: Global,
-    trial: bool,
-    form: &PageForm<'_, Lines>,
-    input: &[u8],
-    sink: &mut W,
-) -> Result<(), KitFault>
-    ensures { IsPageReplay form.now.encoding.now.dialect form.now.reader form.now.head.now
-        form.now.tail.now trial input.now
-        (sink_run W.contents W.failures sink.old sink.new) result }
-{
-    let mut source = CutSource::new(input, None);
-    replay_page(alloc, trial, form, &mut source, sink)
 }

@@ -1,9 +1,9 @@
 //! A request, run.
-ghost use Rattle.std.specs.Prelude.{◌≡◌, ◌≢◌, IfErr, IfOk, IsSomeAnd, MatchOption, None, OnErr, false, is_some, not, true};
-ghost use Rattle.wormweekly_commands.specs.Inputs.{input_of};
+ghost use Rattle.std.specs.Prelude.{◌≡◌, ◌≢◌, IfErr, IfOk, IsSome, IsSomeAnd, MatchOption, None, OnErr, false, true};
 ghost use Rattle.wormweekly_commands.specs.Comparing.{Compares, RefusesDiff};
 ghost use Rattle.wormweekly_commands.specs.Faults.{IsDeviceFault, IsRefusal};
-ghost use Rattle.metric_kit_commands.specs.Commands.{sink_run};
+ghost use Rattle.metric_kit_commands.specs.Commands.{HasNeeded, sink_run};
+ghost use Rattle.metric_kit_commands.specs.Replaying.{needs_of, plain_options};
 ghost use Rattle.wormweekly_commands.specs.Paging.{dialect_of};
 ghost use Rattle.wormweekly_commands.specs.Runs.{Answers, EndsPlain, EndsScript, IsOld, IsOneFile, IsOverwriting, IsReplayEnd, NamesInput, NamesOld, RefusesFor, Replays, RunsCommand, RunsRequest};
 ghost use Rattle.wormweekly_commands.specs.Runs.{Reports, RunsTexts, known_by, writing};
@@ -20,7 +20,8 @@ use crate::fault::{ConsoleFault, Role};
 use crate::folder::{Folder, Unread};
 use crate::paging::{dialect_of, replay_as_page};
 use crate::parts::{Texts, texts_of};
-use crate::replaying::{has_header, input_of, replay_in_form};
+use crate::refused::tell_refused;
+use crate::replaying::{is_trial, replay_in_form, scripted};
 use crate::report::report_of;
 use crate::report_page::report_page;
 use crate::telling::{stop, tell_line, warn};
@@ -30,6 +31,7 @@ use metric_io::Sink;
 use metric_kit_commands::KitFault;
 use metric_parts::Parts;
 use metric_sheet::Sheet;
+use metric_text::lines;
 use std::alloc::Global;
 
 /// Runs what a command line asks for, in a folder and into a sink, tells on `errors` why it stops, and gives the
@@ -168,7 +170,7 @@ fn run_texts<F: Folder, W: Sink, E: Sink>(
         (sink_run W.contents W.failures sink.old sink.new) result }
 {
     if request.task == Task::Replay {
-        run_replay(alloc, request, texts, sink)
+        run_replay(alloc, request, texts, sink, errors)
     } else if request.task == Task::Diff {
         run_diff(alloc, request, texts, columns, sink)
     } else if request.task == Task::Report {
@@ -281,11 +283,12 @@ fn missing(role: Role) -> ConsoleFault
 }
 
 // Replays a script. The exit status.
-fn run_replay<W: Sink>(
+fn run_replay<W: Sink, E: Sink>(
     alloc: Global,
     request: &Request,
     texts: &Texts,
     sink: &mut W,
+    errors: &mut E,
 ) -> Result<u8, ConsoleFault>
     ensures { Replays request.now texts.now
         (sink_run W.contents W.failures sink.old sink.new) result }
@@ -293,91 +296,65 @@ fn run_replay<W: Sink>(
     let Some(script) = &texts.script else {
         return Err(missing(Role::Script));
     };
-    if let Some(role) = headed(&texts.parts) {
-        return Err(ConsoleFault::Header { role });
-    }
-    let input = input_of(alloc, &texts.parts, script)?;
-    replay_script(alloc, request, &texts.parts, script, &input, sink)
+    let lines = lines(alloc, script.as_str().as_bytes())?;
+    let parts = scripted(alloc, &texts.parts, &lines)?;
+    replay_script(alloc, request, &parts, sink, errors)
 }
 
-// Replays the input that files and a script make up. The exit status.
-fn replay_script<W: Sink>(
+// Replays the script of parts, and tells what its form does not show. The exit status.
+fn replay_script<W: Sink, E: Sink>(
     alloc: Global,
     request: &Request,
     parts: &Parts<'_>,
-    script: &Text,
-    input: &[u8],
     sink: &mut W,
+    errors: &mut E,
 ) -> Result<u8, ConsoleFault>
-    requires { input.now ≡ input_of parts.now.catalogue parts.now.config parts.now.certificate
-        script.now }
-    ensures { EndsScript request.now parts.now script.now
+    requires { IsSome parts.now.script }
+    ensures { EndsScript request.now parts.now
         (sink_run W.contents W.failures sink.old sink.new) result }
 {
-    // For the proof alone: the input has the script.
-    let _ = script;
-    match replay_as(alloc, request, parts, input, sink) {
-        Ok(()) => Ok(0),
+    match replay_as(alloc, request, parts, sink) {
+        Ok(()) => {
+            tell_refused(alloc, request, parts, errors);
+            Ok(0)
+        }
         Err(fault) => Err(fault),
     }
 }
 
-// Replays an input of parts, which these are, in the form that is asked for.
+// Replays the script of parts in the form that is asked for.
 fn replay_as<W: Sink>(
     alloc: Global,
     request: &Request,
     parts: &Parts<'_>,
-    input: &[u8],
     sink: &mut W,
 ) -> Result<(), ConsoleFault>
-    ensures { IsReplayEnd request.now parts.now input.now
+    requires { IsSome parts.now.script }
+    ensures { IsReplayEnd request.now parts.now
         (sink_run W.contents W.failures sink.old sink.new) result }
 {
     let trial = is_trial(parts);
     match dialect_of(request.options.form) {
-        Some(dialect) => replay_as_page(alloc, request, dialect, parts, trial, input, sink),
-        None => replay_plain(alloc, request, trial, input, sink),
+        Some(dialect) => replay_as_page(alloc, request, dialect, parts, trial, sink),
+        None => replay_plain(alloc, request, parts, trial, sink),
     }
-}
-
-// Whether a replay is a trial: it is one without a certificate.
-fn is_trial(parts: &Parts<'_>) -> bool
-    ensures { result ≡ not (is_some parts.now.certificate) }
-{
-    !parts.certificate.is_some()
 }
 
 // The same in a form that is no page.
 fn replay_plain<W: Sink>(
     alloc: Global,
     request: &Request,
+    parts: &Parts<'_>,
     trial: bool,
-    input: &[u8],
     sink: &mut W,
 ) -> Result<(), ConsoleFault>
-    requires { dialect_of request.now.options.form ≡ None }
-    ensures { EndsPlain request.now trial input.now
+    requires form { dialect_of request.now.options.form ≡ None }
+    requires needed { HasNeeded (needs_of (plain_options trial)) parts.now }
+    ensures { EndsPlain request.now parts.now trial
         (sink_run W.contents W.failures sink.old sink.new) result }
 {
-    match replay_in_form(alloc, request, trial, input, sink) {
+    match replay_in_form(alloc, request, trial, parts, sink) {
         Ok(()) => Ok(()),
         Err(fault) => Err(ConsoleFault::Kit(fault)),
-    }
-}
-
-// The first file of which a line looks like the header of a part.
-fn headed(parts: &Parts<'_>) -> Option<Role> {
-    if has_header(&parts.catalogue) {
-        Some(Role::Catalogue)
-    } else if has_header(&parts.config) {
-        Some(Role::Config)
-    } else if parts
-        .certificate
-        .as_ref()
-        .is_some_and(|text| has_header(text))
-    {
-        Some(Role::Certificate)
-    } else {
-        None
     }
 }

@@ -12,7 +12,6 @@ use crate::listing::Listing;
 use crate::notes::Notes;
 use crate::page_words::told_page;
 use crate::parts::Texts;
-use crate::replaying::lines_before;
 use crate::shown_path::shown;
 use crate::telling_old::told_old;
 use metric_advice::{Remark, remark_of};
@@ -158,7 +157,6 @@ fn told(
         ConsoleFault::Unread { role, cause } => told_unread(alloc, &request.files, role, cause),
         ConsoleFault::Overwrites { role } => told_overwritten(alloc, &request.files, role),
         ConsoleFault::Unwritten { cause } => told_unwritten(alloc, &request.files, cause),
-        ConsoleFault::Header { role } => told_header(alloc, &request.files, role),
         ConsoleFault::Page(fault) => told_page(alloc, request, texts, fault),
         ConsoleFault::Old(fault) => told_old(alloc, &request.files, texts, fault),
         ConsoleFault::Kit(KitFault::Write) => {
@@ -200,11 +198,6 @@ fn output_of(files: &Files) -> &str {
         Some(path) => path.as_str(),
         None => "",
     }
-}
-
-fn told_header(alloc: Global, files: &Files, role: Role) -> Result<String, AllocError> {
-    let path = path_of(files, role);
-    format!(in alloc; "{path}: a line begins with '%% ', which no part of a replay can have\n")
 }
 
 // What a file is called.
@@ -335,7 +328,6 @@ fn told_script(
     line: u64,
 ) -> Result<String, AllocError> {
     let path = path_of(files, Role::Script);
-    let line = line.saturating_sub(lines_before(&texts.parts));
     if line > lines_of(&texts.script) {
         return format!(in alloc;
             "{path}: no start line: a script begins with one, such as 'start 0'\n"

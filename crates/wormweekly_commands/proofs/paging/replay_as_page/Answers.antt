@@ -12,5 +12,5 @@ replay_behind-requires-clause-head g c = c.as_slice-head.ensures ∙ c.in-Ok.ens
 
 pub returns-in-Err : goal.returns-in-Err
 returns-in-Err g c =
-    of_head c.args.request.now c.args.parts.now c.args.dialect c.args.trial c.args.input.now
+    of_head c.args.request.now c.args.parts.now c.args.dialect c.args.trial
     (sink_run g.W.Sink.contents g.W.Sink.failures c.args.sink.now c.args.sink.now) c.in-Err.fault c.in-Err.ensures refl

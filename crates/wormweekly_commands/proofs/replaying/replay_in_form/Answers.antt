@@ -7,15 +7,15 @@ use Rattle.wormweekly_commands.proofs.replaying.replay_in_form.Goals as goal
 
 pub returns-in-Replies : goal.returns-in-Replies
 returns-in-Replies g c =
-    subst (λ (form : Form). IsReplayIn form c.args.request.now.resource c.args.trial c.args.request.now.options.audit c.args.input.now
-    (sink_run g.W.Sink.contents g.W.Sink.failures c.args.sink.now c.replay_input.new.sink) c.replay_input.result) (sym c.in-Replies.is) c.replay_input.ensures
+    subst (λ (form : Form). IsReplayIn form c.args.request.now.resource c.args.trial c.args.request.now.options.audit c.args.parts.now
+    (sink_run g.W.Sink.contents g.W.Sink.failures c.args.sink.now c.replay_parts.new.sink) c.replay_parts.result) (sym c.in-Replies.is) c.replay_parts.ensures
 
 pub returns-in-OtlpLines : goal.returns-in-OtlpLines
 returns-in-OtlpLines g c =
-    subst (λ (form : Form). IsReplayIn form c.args.request.now.resource c.args.trial c.args.request.now.options.audit c.args.input.now
-    (sink_run g.W.Sink.contents g.W.Sink.failures c.args.sink.now c.encode_input.new.sink) c.encode_input.result) (sym c.in-OtlpLines.is) c.encode_input.ensures
+    subst (λ (form : Form). IsReplayIn form c.args.request.now.resource c.args.trial c.args.request.now.options.audit c.args.parts.now
+    (sink_run g.W.Sink.contents g.W.Sink.failures c.args.sink.now c.replay_encoded.new.sink) c.replay_encoded.result) (sym c.in-OtlpLines.is) c.replay_encoded.ensures
 
 pub returns-in-OtlpBytes : goal.returns-in-OtlpBytes
 returns-in-OtlpBytes g c =
-    subst (λ (form : Form). IsReplayIn form c.args.request.now.resource c.args.trial c.args.request.now.options.audit c.args.input.now
-    (sink_run g.W.Sink.contents g.W.Sink.failures c.args.sink.now c.encode_input-in-OtlpBytes.new.sink) c.encode_input-in-OtlpBytes.result) (sym c.in-OtlpBytes.is) c.encode_input-in-OtlpBytes.ensures
+    subst (λ (form : Form). IsReplayIn form c.args.request.now.resource c.args.trial c.args.request.now.options.audit c.args.parts.now
+    (sink_run g.W.Sink.contents g.W.Sink.failures c.args.sink.now c.replay_encoded-in-OtlpBytes.new.sink) c.replay_encoded-in-OtlpBytes.result) (sym c.in-OtlpBytes.is) c.replay_encoded-in-OtlpBytes.ensures
