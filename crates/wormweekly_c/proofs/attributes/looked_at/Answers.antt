@@ -1,5 +1,5 @@
 -- of few attributes all are looked at
-use Rattle.std.proofs.Common.{◌≡◌, ◌≤◌, arith, length, omega, sym}
+use Rattle.std.proofs.Common.{◌≡◌, ◌≤◌, arith, length, sym}
 use Rattle.std.proofs.lemmas.List.{take_all}
 use Rattle.wormweekly_c.proofs.attributes.looked_at.Goals as goal
 
