@@ -89,8 +89,15 @@ pub(crate) fn scripted<'a>(
         catalogue: Text::new(alloc, parts.catalogue.as_str())?,
         config: Text::new(alloc, parts.config.as_str())?,
         certificate: copied(alloc, &parts.certificate)?,
-        script: Some(Script::at_end(lines, lines)),
+        script: Some(script_of(lines)),
     })
+}
+
+// The script of these lines, numbered from 1.
+fn script_of<'a>(lines: &'a [&'a [u8]]) -> Script<'a>
+    ensures { result ≡ script_of (texts lines.entry.now) }
+{
+    Script::at_end(lines, lines)
 }
 
 // The same text, where there is one.
