@@ -128,7 +128,8 @@ pub(crate) fn add_instruments(
 ) -> Result<(), CatalogueFault>
     requires { length instruments.old + length tables.now ≤ 512 }
     ensures exact { Advances CatalogueFault.Memory result instruments.new
-        (each (instrument_of format meter) instruments.old (map (λ t. table_view t.now) tables.now)) }
+        (each (instrument_of format meter) instruments.old
+        (map (λ t. table_view t.now) tables.now)) }
     ensures few { length instruments.new ≤ length instruments.old + length tables.now }
 {
     for table in tables {
@@ -265,7 +266,8 @@ fn instrument_name(
     format: u8,
     at: CataloguePlace,
 ) -> Result<Shared<Name>, CatalogueFault>
-    ensures { Gives CatalogueFault.Memory result (instrument_name format at (table_view table.now)) }
+    ensures { Gives CatalogueFault.Memory result
+        (instrument_name format at (table_view table.now)) }
 {
     only_instrument_fields(table, format, at)?;
     let at = at.field(CatalogueField::Name);

@@ -95,7 +95,8 @@ fn budgets_field(
 #[tactic(auto, using(crate::proofs::FieldNames::field_names))]
 fn only_recorder_fields(table: &Table, at: CataloguePlace) -> Result<(), CatalogueFault>
     ensures { result
-        ≡ only (faults_at (field_at at CatalogueField.Unknown)) recorder_fields (table_view table.now) }
+        ≡ only (faults_at (field_at at CatalogueField.Unknown)) recorder_fields
+        (table_view table.now) }
 {
     only(table, &RECORDER_FIELDS, &unknown_at(at))
 }

@@ -39,7 +39,8 @@ pub(crate) trait Fields {
     fn put(alloc: Global, table: &mut Table, entry: &Self::Read) -> Result<(), AllocError>
         requires { table_view table.old ≡ no_members }
         ensures reads { OnOk result (step (table_view table.new) ≡ Ok entry.now) }
-        ensures printable { OnOk result (IsPrintable (levels + 1) (table_data (table_view table.new))) };
+        ensures printable { OnOk result
+            (IsPrintable (levels + 1) (table_data (table_view table.new))) };
 }
 
 /// An entry that is a table with such fields.

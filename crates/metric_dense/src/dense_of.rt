@@ -47,7 +47,11 @@ impl<A: Aggregate> Model for DenseOf<A> {
 
     ghost Value = { DenseValue A };
 
-    ghost view = { λ t. record { kept = t.ranks.kept; keys = t.ranks.keys; aggregates = t.aggregates.items } };
+    ghost view = { λ t. record {
+      kept = t.ranks.kept;
+      keys = t.ranks.keys;
+      aggregates = t.aggregates.items;
+    } };
 
     ghost invariant = { λ t. length t.aggregates.items ≡ product_of t.ranks.kept t.ranks.keys };
 }
@@ -63,7 +67,8 @@ impl<A: Aggregate> DenseOf<A> {
     ) -> Result<DenseOf<A>, AllocError>
         requires { IsRanked kept keys.now }
         ensures stands { IfOk result (λ table. (s : Stream) → kept ≡ s.kept
-            → product_of kept keys.now ≤ s.limit → A.aggregation_of parameters.now ≡ stream_aggregation s
+            → product_of kept keys.now ≤ s.limit
+            → A.aggregation_of parameters.now ≡ stream_aggregation s
             → StandsDense A.Aggregate table s []) }
         ensures keys { IfOk result (λ table. table.keys ≡ keys.now) }
     {

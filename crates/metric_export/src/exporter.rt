@@ -41,13 +41,17 @@ pub trait MetricExporter {
     ghost takes: { Self → ℕ → ℕ → Bool } = { λ _ _ _. true };
 
     // What an export does to the exporter, by the plan, the batch and the answer.
-    ghost export_gives: { Self → Self → PlanValue → Batch → Result (Unit {0}) ExportFault → Type 0 };
+    ghost export_gives: { Self → Self → PlanValue → Batch
+        → Result (Unit {0}) ExportFault → Type 0 };
 
     // What a flush does to it, by the answer.
-    ghost flush_gives: { Self → Self → Result (Unit {0}) ExportFault → Type 0 } = { λ _ _ _. Unit {0} };
+    ghost flush_gives: { Self → Self → Result (Unit {0}) ExportFault → Type 0 } = { λ _ _ _.
+        Unit {0} };
 
     // What a new try of what it keeps does to it, by the plan and the answer: nothing, where nothing else is said.
-    ghost retry_gives: { Self → Self → PlanValue → Result (Unit {0}) ExportFault → Type 0 } = { λ old new _ answer. (new ≡ old) × (answer ≡ Ok tt) };
+    ghost retry_gives: { Self → Self → PlanValue
+        → Result (Unit {0}) ExportFault → Type 0 } = { λ old new _ answer.
+            (new ≡ old) × (answer ≡ Ok tt) };
 
     // What a shutdown does to it, by the answer.
     ghost shutdown_gives: { Self → Self → Result (Unit {0}) ExportFault → Type 0 };

@@ -68,8 +68,8 @@ fn refused<E: MetricExporter>(
     plan: &Plan,
     batch: &Batch,
 ) -> Option<ExportFault>
-    ensures { TakesOrRefuses (IsExport E.MetricExporter plan.now) exporter.old exporter.new batch.now
-        result }
+    ensures { TakesOrRefuses (IsExport E.MetricExporter plan.now) exporter.old exporter.new
+        batch.now result }
 {
     match exporter.export(alloc, plan, batch) {
         Ok(()) | Err(ExportFault::Kept) => None,

@@ -145,8 +145,8 @@ fn push_points(
     points: &[Point],
 ) -> Result<(), AllocError>
     ensures { OnOk result (out.new.items ≡ out.old.items ++ flat_map (point_lines
-        source.now.dialect source.now.meter.now source.now.keys.now stream.now name.now source.now.start)
-        points.now) }
+        source.now.dialect source.now.meter.now source.now.keys.now stream.now name.now
+        source.now.start) points.now) }
 {
     for point in points {
         push_point(out, labels, source, name, stream, point)?;
@@ -163,8 +163,8 @@ fn push_point(
     point: &Point,
 ) -> Result<(), AllocError>
     ensures { OnOk result (out.new.items ≡ out.old.items ++ point_lines
-        source.now.dialect source.now.meter.now source.now.keys.now stream.now name.now source.now.start
-        point.now) }
+        source.now.dialect source.now.meter.now source.now.keys.now stream.now name.now
+        source.now.start point.now) }
 {
     let kept = stream.kept.get().as_slice();
     fill_point_labels(labels, source.meter, source.keys, kept, &point.set)?;

@@ -74,7 +74,8 @@ fn push_attributes(
 }
 
 fn push_scope(labels: &mut Vec<u8>, meter: &Meter) -> Result<(), AllocError>
-    ensures { OnOk result (labels.new.items ≡ with_labels labels.old.items (scope_labels meter.now)) }
+    ensures { OnOk result
+        (labels.new.items ≡ with_labels labels.old.items (scope_labels meter.now)) }
 {
     push_named(labels, "otel_scope_name", meter.name.as_str())?;
     push_named(labels, "otel_scope_version", meter.version.as_str())?;

@@ -30,7 +30,8 @@ pub fn push_target(
     resource: &Resource,
 ) -> Result<(), TargetFault>
     ensures check { Gives TargetFault.Memory result (target_check resource.now) }
-    ensures lines { OnOk result (out.new.items ≡ out.old.items ++ target_text dialect resource.now) }
+    ensures lines { OnOk result
+        (out.new.items ≡ out.old.items ++ target_text dialect resource.now) }
     ensures refused { IfErr result (λ fault.
         (fault ≡ TargetFault.Memory) ⊎ (out.new.items ≡ out.old.items)) }
 {

@@ -296,7 +296,8 @@ fn write_details_after(
     stream: &Stream,
 ) -> Result<(), AllocError>
     ensures { OnOk result (bytes.new.items
-        ≡ bytes.old.items ++ flat_details_after (option_copied earlier.entry) (details_of stream.now)) }
+        ≡ bytes.old.items
+        ++ flat_details_after (option_copied earlier.entry) (details_of stream.now)) }
 {
     let details = details_of(stream);
     if repeats(earlier, &details) {
@@ -374,7 +375,8 @@ fn are_of_keys(keys: usize, rows: &[SetKey]) -> bool
 
 // Writes the entries of so many keys of each row.
 fn write_entries(bytes: &mut Vec<u8>, keys: usize, rows: &[SetKey]) -> Result<(), AllocError>
-    ensures { OnOk result (bytes.new.items ≡ bytes.old.items ++ flat_each (flat_row keys) rows.now) }
+    ensures { OnOk result
+        (bytes.new.items ≡ bytes.old.items ++ flat_each (flat_row keys) rows.now) }
 {
     for row in rows {
         write_each(bytes, entries_of(keys, row))?;

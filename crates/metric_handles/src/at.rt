@@ -76,8 +76,8 @@ impl<R: Wait, S: Seat, B: Book, G: Gate> At<'_, R, S, B, G> {
         ensures same { self.new.seat.ghost_name ≡ self.old.seat.ghost_name }
         ensures provider { self.new.provider.now ≡ self.old.provider.now }
         ensures made { let p = self.old.provider.now in let given = map given_by attrs.now in
-            MakesByHandle B.KEEPS_ENTRIES B.spares_memory S.seat S.notes S.records p handle.now given
-            value self.old.seat.now self.new.seat.now result }
+            MakesByHandle B.KEEPS_ENTRIES B.spares_memory S.seat S.notes S.records p handle.now
+            given value self.old.seat.now self.new.seat.now result }
     {
         handle.add(self.rt, self.provider, self.seat, attrs, value)
     }
@@ -93,8 +93,8 @@ impl<R: Wait, S: Seat, B: Book, G: Gate> At<'_, R, S, B, G> {
         ensures same { self.new.seat.ghost_name ≡ self.old.seat.ghost_name }
         ensures provider { self.new.provider.now ≡ self.old.provider.now }
         ensures made { let p = self.old.provider.now in let given = map given_by attrs.now in
-            MakesByHandle B.KEEPS_ENTRIES B.spares_memory S.seat S.notes S.records p handle.now given
-            value self.old.seat.now self.new.seat.now result }
+            MakesByHandle B.KEEPS_ENTRIES B.spares_memory S.seat S.notes S.records p handle.now
+            given value self.old.seat.now self.new.seat.now result }
     {
         handle.record(self.rt, self.provider, self.seat, attrs, value)
     }

@@ -102,7 +102,8 @@ impl<K> Handle<K> {
     pub fn clamped(&self, plan: &Plan, replaced: &mut Replaced, value: i64) -> Result<i64, Refusal>
         ensures value { result ≡ nearest_in plan.now self.now value }
         ensures counted { let kept = keeps_amount_in plan.now self.now value in
-            replaced.new ≡ record replaced.old { amounts = counted_after kept replaced.old.amounts } }
+            replaced.new
+            ≡ record replaced.old { amounts = counted_after kept replaced.old.amounts } }
     {
         let number = self.number_in(plan)?;
         let instrument = instrument_at(plan.catalogue().instruments(), number)?;
@@ -121,7 +122,8 @@ fn instrument_at(instruments: &[Instrument], number: u32) -> Result<&Instrument,
 
 // The key of a name on the instrument of a number.
 fn key_at<'a>(instruments: &'a [Instrument], number: u32, name: &str) -> Result<&'a Key, Refusal>
-    ensures { result_map_both (λ r. r.now) (λ e. e) result ≡ key_at instruments.now number name.now }
+    ensures { result_map_both (λ r. r.now) (λ e. e) result
+        ≡ key_at instruments.now number name.now }
 {
     let instrument = instrument_at(instruments, number)?;
     match key_named(instrument.keys.as_slice(), name) {

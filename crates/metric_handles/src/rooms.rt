@@ -30,7 +30,8 @@ pub(crate) struct RoomsOf<'a, R, B: Book, G: Gate> {
 impl<R: Wait, B: Book, G: Gate> Rooms for RoomsOf<'_, R, B, G> {
     ghost use Rattle.metric_handles.specs.Jobs.{TellsNeed};
 
-    ghost tells = { λ rooms need result. TellsNeed rooms.provider.now rooms.recorder.now need result };
+    ghost tells = { λ rooms need result.
+        TellsNeed rooms.provider.now rooms.recorder.now need result };
 
     fn room(&self, need: &Need) -> Result<u64, Refusal> {
         if need.plan != self.provider.plan().fingerprint() {

@@ -41,8 +41,8 @@ impl<R: Wait, B: Book, G: Gate> Spares for RoomsOf<'_, R, B, G> {
 
     ghost tells = { λ s instrument result.
         let p = s.provider.now in let own = s.recorder.now in
-        AnswersRoom (is_recorder_of p own) (slice_get p.plan.facts.instruments instrument) own.number
-        (told_at own instrument) result };
+        AnswersRoom (is_recorder_of p own) (slice_get p.plan.facts.instruments instrument)
+        own.number (told_at own instrument) result };
 
     ghost spares = { λ s instrument result.
         AnswersSpare (slice_get s.provider.now.plan.facts.instruments instrument) result };

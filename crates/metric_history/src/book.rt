@@ -79,5 +79,6 @@ pub trait Book: Drop {
         ensures { result.now ≡ kept self.now };
 
     // A book keeps each journal for which it stands, or nothing.
-    ghost keeps_all_or_nothing: { (book : Self) → KeepsAllOrNothing (stands book) KEEPS_ENTRIES (kept book) };
+    ghost keeps_all_or_nothing: { (book : Self)
+        → KeepsAllOrNothing (stands book) KEEPS_ENTRIES (kept book) };
 }

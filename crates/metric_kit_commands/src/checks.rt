@@ -84,7 +84,8 @@ impl Command for Check {
         write_text(sink, b"accepted\n")
     }
 
-    ghost answered = { λ _ _ plan certified. record { plan = plan; certified = certified; written = refl } };
+    ghost answered = { λ _ _ plan certified.
+        record { plan = plan; certified = certified; written = refl } };
 
     ghost refused = { λ _. check_refused };
 

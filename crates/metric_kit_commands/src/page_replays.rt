@@ -199,15 +199,18 @@ impl<E: Encoding> Command for PageReplay<'_, E> {
 
     ghost needed = { λ c. parts_needed (options_of c.trial) };
 
-    ghost is_answer = { λ c read run. IsAnsweredRun (options_of c.trial) read run.core.plan run.replies.items };
+    ghost is_answer = { λ c read run.
+        IsAnsweredRun (options_of c.trial) read run.core.plan run.replies.items };
 
     ghost is_fault = { λ c. IsFault (options_of c.trial) };
 
-    ghost is_due = { λ c. IsPageOf (E.text c.form.now.encoding.now) c.form.now.reader c.form.now.head.now c.form.now.tail.now (options_of c.trial) };
+    ghost is_due = { λ c. IsPageOf (E.text c.form.now.encoding.now) c.form.now.reader
+        c.form.now.head.now c.form.now.tail.now (options_of c.trial) };
 
     ghost is_first_fault = { λ c. IsFirst (options_of c.trial) };
 
-    ghost text = { λ c run. page_text_of (E.text c.form.now.encoding.now) c.form.now.reader c.form.now.head.now c.form.now.tail.now run.core.plan run.replies.items };
+    ghost text = { λ c run. page_text_of (E.text c.form.now.encoding.now) c.form.now.reader
+        c.form.now.head.now c.form.now.tail.now run.core.plan run.replies.items };
 
     fn needed_parts(&self) -> Needs {
         plain_options(self.trial).needs()

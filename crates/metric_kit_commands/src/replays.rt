@@ -120,7 +120,8 @@ impl<F: ReplyForm> Command for FormedReplay<'_, F> {
 
     ghost needed = { λ c. parts_needed (options_of c.trial) };
 
-    ghost is_answer = { λ c read run. IsOfParts (options_of c.trial) read run.core.plan run.core.start run.events
+    ghost is_answer = { λ c read run.
+        IsOfParts (options_of c.trial) read run.core.plan run.core.start run.events
         × CoreStands StandsMarked run.core [] };
 
     ghost is_fault = { λ c. IsFault (options_of c.trial) };
@@ -129,7 +130,8 @@ impl<F: ReplyForm> Command for FormedReplay<'_, F> {
 
     ghost is_first_fault = { λ c. IsFirst (options_of c.trial) };
 
-    ghost text = { λ c run. due_text (F.text c.form.now) run.core.plan run.core.start [] run.events };
+    ghost text = { λ c run.
+        due_text (F.text c.form.now) run.core.plan run.core.start [] run.events };
 
     fn needed_parts(&self) -> Needs {
         plain_options(self.trial).needs()
@@ -237,7 +239,8 @@ impl Command for AuditedReplay {
 
     ghost needed = { λ c. parts_needed (audited_options c.trial) };
 
-    ghost is_answer = { λ c read run. IsAudited (audited_options c.trial) read run.core.plan run.replies.items run.accepted };
+    ghost is_answer = { λ c read run. IsAudited (audited_options c.trial) read run.core.plan
+        run.replies.items run.accepted };
 
     ghost is_fault = { λ c. IsFault (audited_options c.trial) };
 
@@ -245,7 +248,8 @@ impl Command for AuditedReplay {
 
     ghost is_first_fault = { λ c. IsFirst (audited_options c.trial) };
 
-    ghost text = { λ _ run. replies_text run.core.plan run.replies.items ++ audited_text run.accepted };
+    ghost text = { λ _ run.
+        replies_text run.core.plan run.replies.items ++ audited_text run.accepted };
 
     fn needed_parts(&self) -> Needs {
         let options = ReplayOptions {
@@ -272,7 +276,8 @@ impl Command for AuditedReplay {
       replies = run.replies.items;
       answered = known.answered;
       audited = λ _. known.audited;
-      written = ap (λ (n : ℕ). replies_text run.core.plan run.replies.items ++ audited_text n) known.counted;
+      written = ap (λ (n : ℕ). replies_text run.core.plan run.replies.items ++ audited_text n)
+          known.counted;
     } };
 
     ghost refused = { λ c. replay_refused (audited_options c.trial) };

@@ -58,7 +58,8 @@ impl Command for Show {
 
     ghost is_first_fault = { λ _. IsFirst };
 
-    ghost text = { λ _ l. text_of l.declared.catalogue l.declared.config l.streams.list l.streams.warnings };
+    ghost text = { λ _ l.
+        text_of l.declared.catalogue l.declared.config l.streams.list l.streams.warnings };
 
     fn needed_parts(&self) -> Needs {
         Needs {
@@ -99,7 +100,8 @@ struct Listing {
 impl PartWriter<Stream> for Listing {
     ghost use Rattle.metric_lines.specs.Streams.{shown_text};
 
-    ghost text = { λ l number stream. shown_text l.declared.catalogue l.declared.config number stream };
+    ghost text = { λ l number stream.
+        shown_text l.declared.catalogue l.declared.config number stream };
 
     #[tactic(auto, using(metric_io::specs::Prefix::prefixes))]
     fn write_part<W: Sink>(

@@ -107,7 +107,8 @@ fn entry_by_list(stream: &Stream, listed: Option<Items<SetKey>>) -> Option<Strea
 // The entry by budget, where so many recordings are within the limit.
 fn entry_by_budget(total: u64, number: u32, stream: &Stream) -> Result<StreamSets, MakeFault>
     ensures { result ≡ (if nat_le total stream.now.limit
-        then Ok (entry_with stream.now By.Budget total) else Err (limit_exceeded number stream.now)) }
+        then Ok (entry_with stream.now By.Budget total)
+        else Err (limit_exceeded number stream.now)) }
 {
     if total <= u64::from(stream.limit) {
         Ok(entry_by(stream, By::Budget, total as u32))

@@ -48,7 +48,12 @@ impl Model for Marked {
 
     ghost Value = { MarkedValue };
 
-    ghost view = { λ b. record { tables = b.tables.items; delta = b.delta; marks = b.marks.items; count = b.count } };
+    ghost view = { λ b. record {
+      tables = b.tables.items;
+      delta = b.delta;
+      marks = b.marks.items;
+      count = b.count;
+    } };
 
     ghost invariant = { λ b. length b.tables.items ≤ vec_capacity b.places };
 }

@@ -33,7 +33,8 @@ impl Exposition {
 }
 
 impl Encoding for Exposition {
-    ghost text = { λ dialect plan batch. exposition dialect plan.facts.contents plan.streams batch };
+    ghost text = { λ dialect plan batch.
+        exposition dialect plan.facts.contents plan.streams batch };
 
     fn takes(&self, _plan: u64, _reader: u32) -> bool {
         true

@@ -65,7 +65,8 @@ impl<E: MetricExporter> Exports<E> {
         plan: &Plan,
         collected: &Result<Vec<Batch>, AllFault>,
     )
-        ensures { ExportsCollected (IsExport E.MetricExporter plan.now) self.old self.new collected.now }
+        ensures { ExportsCollected (IsExport E.MetricExporter plan.now) self.old self.new
+            collected.now }
     {
         self.count_collection(collected);
         match collected {

@@ -88,8 +88,8 @@ impl<E: MetricExporter> OpenPeriodic<E> {
         counts: &RunningCounts,
     ) -> OpenEnd<E>
         ensures run { IsOpenRun T.next_gives (CollectsPatiently provider.now)
-            (CollectsLastPatiently provider.now) (calls_of E.MetricExporter provider.now.plan) self.turns
-            (progress ticker.old 0 collector self.counts)
+            (CollectsLastPatiently provider.now) (calls_of E.MetricExporter provider.now.plan)
+            self.turns (progress ticker.old 0 collector self.counts)
             ticker.new result.stopped result.kept result.reader.counts }
         ensures turns { result.reader.turns ≡ self.turns }
         ensures asked { T.asked ticker.new ≤ T.asked ticker.old + self.turns }

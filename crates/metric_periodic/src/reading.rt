@@ -102,9 +102,9 @@ pub(crate) fn read_open<R, P, C: Seat<R, P>, E: MetricExporter, T: Ticker<R>, L:
     }
 }
 
-/// Collects at each tick, hands on what was collected, as [`collect_and_export`] says, and flushes the exporter, until the ticker stops or
-/// was asked so many times; then collects once more, at the moment of the last tick, 0 where there was none;
-/// and lets the exporter try once more what it keeps.
+/// Collects at each tick, hands on what was collected, as [`collect_and_export`] says, and flushes the exporter, until the
+/// ticker stops or was asked so many times; then collects once more, at the moment of the last tick, 0 where there was
+/// none; and lets the exporter try once more what it keeps.
 fn read_all<R, P, C: Seat<R, P>, E: MetricExporter, T: Ticker<R>, L: Listener>(
     rt: &R,
     alloc: Global,
@@ -159,7 +159,8 @@ fn make_turns<R, P, C: Seat<R, P>, E: MetricExporter, T: Ticker<R>, L: Listener>
     reading: &mut Reading<'_, C, E, L>,
     ticker: &mut T,
 ) -> Tick
-    ensures turns { MakesTurns T.next_gives (C.collects provider.now) (calls_of E.MetricExporter plan.now) turns
+    ensures turns { MakesTurns T.next_gives (C.collects provider.now)
+        (calls_of E.MetricExporter plan.now) turns
         (progress ticker.old 0 reading.old.seat reading.old.exports)
         ticker.new result reading.new.seat reading.new.exports }
     ensures asked { T.asked ticker.new ≤ T.asked ticker.old + turns }
@@ -189,7 +190,8 @@ fn collect_and_export<R, P, C: Seat<R, P>, E: MetricExporter, L: Listener>(
     tick: Tick,
     reading: &mut Reading<'_, C, E, L>,
 )
-    ensures collected { IsCollectedAt (C.collects provider.now) (calls_of E.MetricExporter plan.now) tick
+    ensures collected { IsCollectedAt (C.collects provider.now)
+        (calls_of E.MetricExporter plan.now) tick
         reading.old.seat reading.new.seat reading.old.exports reading.new.exports }
     ensures told { L.told reading.old.listener.now reading.new.exports.exported
         reading.new.exports.failed reading.new.exports.delayed

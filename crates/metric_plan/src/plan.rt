@@ -259,7 +259,8 @@ fn facts_of(
 ) -> Result<Items<Facts>, AllocError>
     requires { fingerprint ≡ fingerprint_of catalogue.now config.now }
     ensures { IfOk result (λ facts. facts
-        ≡ (run_facts is_certified by_product.now catalogue.now config.now streams.now).instruments) }
+        ≡ (run_facts is_certified by_product.now catalogue.now config.now
+        streams.now).instruments) }
 {
     all_facts(
         alloc,

@@ -17,7 +17,8 @@ pub(crate) fn journals_of<B: Book>(
     alloc: Global,
     unlocked: &[OpenLanes<B>],
 ) -> Result<Vec<Items<Entry>>, AllocError>
-    ensures journals { IfOk result (λ journals. journals.items ≡ map (kept_by B.kept) unlocked.now) }
+    ensures journals { IfOk result (λ journals.
+        journals.items ≡ map (kept_by B.kept) unlocked.now) }
     ensures kept { OnOk result (All (AreLanes B.stands) unlocked.now) }
 {
     let mut journals = Vec::new(alloc);

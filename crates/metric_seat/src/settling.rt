@@ -42,7 +42,8 @@ pub fn total_of_all<C: Tally, S: Tells>(counted: &C, seats: &[S], instrument: u3
     ensures total { IfSome result (λ total.
         total ≡ told_total (λ seat. S.tells seat instrument) (C.numbers counted.now).lo seats.now) }
     ensures other { IfNone result (
-        IsAsTold S.numbered (λ seat. S.tells seat instrument) (C.numbers counted.now) seats.now → ⊥) }
+        IsAsTold S.numbered (λ seat. S.tells seat instrument) (C.numbers counted.now) seats.now
+        → ⊥) }
 {
     if !are_spent(counted, seats, instrument) {
         return None;
@@ -67,11 +68,13 @@ pub fn total_of_all<C: Tally, S: Tells>(counted: &C, seats: &[S], instrument: u3
 /// the instrument's count and sum.
 pub fn total_of_some<C: Tally, S: Tells>(counted: &C, seats: &[S], instrument: u32) -> Option<Total>
     ensures told { OnSome result (
-        IsPartlyTold S.numbered (λ seat. S.tells seat instrument) (C.numbers counted.now) seats.now) }
+        IsPartlyTold S.numbered (λ seat. S.tells seat instrument) (C.numbers counted.now)
+        seats.now) }
     ensures total { IfSome result (λ total.
         total ≡ told_total (λ seat. S.tells seat instrument) (C.numbers counted.now).lo seats.now) }
     ensures other { IfNone result (
-        IsPartlyTold S.numbered (λ seat. S.tells seat instrument) (C.numbers counted.now) seats.now → ⊥) }
+        IsPartlyTold S.numbered (λ seat. S.tells seat instrument) (C.numbers counted.now)
+        seats.now → ⊥) }
 {
     if !are_spent(counted, seats, instrument) {
         return None;

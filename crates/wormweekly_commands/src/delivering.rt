@@ -90,7 +90,8 @@ fn print_answer<W: Sink>(
     answer: &Answer,
     columns: u32,
 ) -> Result<(), KitFault>
-    ensures accepted { OnOk result (IsPrinted answer.now (W.contents sink.old) (W.contents sink.new)) }
+    ensures accepted { OnOk result
+        (IsPrinted answer.now (W.contents sink.old) (W.contents sink.new)) }
     ensures device { IfErr result IsDeviceFault }
 {
     match answer {
