@@ -22,5 +22,5 @@ pub use explanation::{Explanation, Mistake, explain_refusal};
 pub use headroom::{Headroom, headrooms, sets_of};
 pub use limit::Limit;
 pub use linting::{lint, remark_of};
-pub use position::{Position, locate_in_catalogue, locate_in_config};
+pub use position::{Position, begins, locate_in_catalogue, locate_in_config};
 pub use remark::{KeyList, Remark, is_kind};

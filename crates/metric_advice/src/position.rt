@@ -112,8 +112,8 @@ fn nth_header(lines: &[&[u8]], header: &[u8], number: u32) -> Option<Position>
     None
 }
 
-// Whether a line, without its blanks and quotes, begins with these bytes.
-fn begins(first: &[u8], line: &[u8]) -> bool
+/// Whether a line, without its blanks and quotes, begins with these bytes.
+pub fn begins(first: &[u8], line: &[u8]) -> bool
     ensures { result ≡ begins first.now line.now }
 {
     let mut left = first;

@@ -1,1 +1,2 @@
 pub mod ChoiceLaws
+mod StandingLaws

@@ -7,7 +7,8 @@ use Rattle.metric_exposure.specs.declared.fault.ExposureFault.{ExposureFault}
 use Rattle.metric_exposure.specs.declared.fault.ExposureFault.TheVariants as faults
 use Rattle.metric_diagnosis.specs.declared.places.Place.{Place}
 use Rattle.metric_diagnosis.specs.declared.places.Place.TheVariants.{Config}
-use Rattle.metric_diagnosis.specs.Places.{place_of_stream, standing}
+use Rattle.metric_diagnosis.specs.Places.{file_of, place_of_stream, standing}
+use Rattle.metric_diagnosis.specs.declared.sources.Pair.{Pair}
 
 -- the reader of a stream
 abbrev pub place_of_reader : Option Stream → Place
@@ -26,9 +27,13 @@ place_of streams (faults.ValueCollision stream key) = place_of_stream (slice_get
 place_of streams faults.Memory = Config Top
 
 -- # where a fault stands that keeps a stream from a way out (profile)
--- The position is that of the table: of the reader of a delta, else of the stream's view, else of its
--- instrument.
+-- The position is that of the table: of the reader of a delta, else of the stream's view, else of
+-- its instrument.
 abbrev pub ExposureStands : List ℕ → List ℕ → List Stream → ExposureFault → Option Position
     → Type 0
 ExposureStands catalogue config streams fault position =
     position ≡ standing catalogue config (place_of streams fault)
+
+-- the file that is named for it: that of the same table
+abbrev pub ExposureNames : Pair → List Stream → ExposureFault → List ℕ → Type 0
+ExposureNames pair streams fault file = file ≡ file_of pair (place_of streams fault)

@@ -2,3 +2,5 @@ pub mod Choices
 pub mod Exposures
 pub mod Marks
 pub mod Places
+pub mod Standing
+pub mod Tables

@@ -23,6 +23,11 @@ abbrev pub standing : List ℕ → List ℕ → Place → Option Position
 standing catalogue config (Catalogue place) = located catalogue (catalogue_place place)
 standing catalogue config (Config place) = located config (config_place place)
 
+-- the file that a place is in
+abbrev pub file_of : Pair → Place → List ℕ
+file_of pair (Catalogue place) = pair.catalogue_source.name.now
+file_of pair (Config place) = pair.config_source.name.now
+
 -- the streams that a pair gives
 abbrev pub streams_in : Pair → List Stream
 streams_in pair = streams_of pair.catalogue.now pair.config.now
@@ -50,7 +55,8 @@ place_of_stream (Some stream) = view_or stream.view (Catalogue (Instrument strea
 abbrev pub place_of_two : Option Stream → Option Stream → Place
 place_of_two first later = view_or (view_of later) (view_or (view_of first) (Catalogue tops.Top))
 
--- where a limit of an instrument is told of: at the instrument by its own numbers, else at the stream
+-- where a limit of an instrument is told of: at the instrument by its own numbers, else at the
+-- stream
 abbrev pub place_of_limit : List Stream → ℕ → Limit → Place
 place_of_limit streams instrument (Series stream) = place_of_series (slice_get streams stream)
 place_of_limit streams instrument Count = Catalogue (Instrument instrument)
@@ -84,11 +90,16 @@ place_of_remark streams remarks.NoReader = Config Top
 
 -- # where a remark stands (profile) [RemarkStands, place_of_remark]
 -- A remark stands where the table does that it is about; two streams of one identity at the view of
--- the later one, else of the first; too many series at the view of their stream, else at its reader.
+-- the later one, else of the first; too many series at the view of their stream, else at its
+-- reader.
 abbrev pub RemarkStands : Pair → Remark → Option Position → Type 0
 RemarkStands pair remark position =
     position ≡ standing pair.catalogue_source.text.now pair.config_source.text.now
     (place_of_remark (streams_in pair) remark)
+
+-- the file that is named for a remark: that of the same table
+abbrev pub RemarkNames : Pair → Remark → List ℕ → Type 0
+RemarkNames pair remark file = file ≡ file_of pair (place_of_remark (streams_in pair) remark)
 
 -- where the part of safety is told of that fails first, where these are the streams
 abbrev pub place_of_fault : List Stream → MakeFault → Place
@@ -103,9 +114,14 @@ place_of_fault streams (faults.AmountRange instrument) = Catalogue (Instrument i
 place_of_fault streams faults.Memory = Catalogue tops.Top
 
 -- # where a part of safety stands (profile) [PartStands, place_of_fault]
--- The part that fails first stands at its instrument; two streams of one identity at the view of the
--- later one, else of the first; too many series at the view of their stream, else at its reader.
+-- The part that fails first stands at its instrument; two streams of one identity at the view of
+-- the later one, else of the first; too many series at the view of their stream, else at its
+-- reader.
 abbrev pub PartStands : Pair → MakeFault → Option Position → Type 0
 PartStands pair fault position =
     position ≡ standing pair.catalogue_source.text.now pair.config_source.text.now
     (place_of_fault (streams_in pair) fault)
+
+-- the file that is named for a part of safety: that of the same table
+abbrev pub PartNames : Pair → MakeFault → List ℕ → Type 0
+PartNames pair fault file = file ≡ file_of pair (place_of_fault (streams_in pair) fault)

@@ -6,10 +6,11 @@ use crate::reasons::{
     Entries, of_boundaries, of_format, of_list, of_name, of_pattern, of_value, of_word,
 };
 use crate::site::Site;
+use crate::standing_tables::{kind_name, known_names};
 use crate::tables::name_in;
 use crate::way::{Way, table_on};
 use metric_contents::Kind;
-use metric_views::{ConfigField, ConfigPlace, ConfigSpot, ViewDefect, field_names, kind_names};
+use metric_views::{ConfigField, ConfigPlace, ConfigSpot, ViewDefect, kind_names};
 use std::alloc::Global;
 use toml::{Table, Value};
 
@@ -47,7 +48,7 @@ fn site_of<'v>(top: &'v Table, defect: ViewDefect, spot: ConfigSpot) -> Site<'v>
 
 // Where the field is that the table of a spot does not know, or that of its choices.
 fn unknown_site<'v>(top: &'v Table, spot: ConfigSpot) -> Site<'v> {
-    let names = known_by(spot);
+    let names = known_names(spot.field, spot.place);
     Site::of_other(top, way_to_choices(spot), names)
 }
 
@@ -63,7 +64,7 @@ fn way_to_choices<'v>(spot: ConfigSpot) -> Way<'v> {
 }
 
 fn choice_site<'v>(top: &'v Table, spot: ConfigSpot, kind: Kind) -> Site<'v> {
-    Site::of_known(top, way_to_choices(spot), word_of(kind), None)
+    Site::of_known(top, way_to_choices(spot), kind_name(kind), None)
 }
 
 fn known_site<'v>(top: &'v Table, spot: ConfigSpot) -> Site<'v> {
@@ -97,17 +98,8 @@ fn subject_of<'v>(top: &'v Table, place: ConfigPlace) -> Option<Named<'v>> {
 // The kind of instrument whose choice is wrong.
 fn part_of(spot: ConfigSpot) -> &'static str {
     match spot.kind {
-        Some(kind) => word_of(kind),
+        Some(kind) => kind_name(kind),
         None => "",
-    }
-}
-
-fn word_of(kind: Kind) -> &'static str {
-    match kind {
-        Kind::Counter => "counter",
-        Kind::UpDownCounter => "up_down_counter",
-        Kind::Histogram => "histogram",
-        Kind::Gauge => "gauge",
     }
 }
 
@@ -117,7 +109,7 @@ fn wrong_of<'v>(alloc: Global, defect: ViewDefect, spot: ConfigSpot, site: Site<
     match defect {
         ViewDefect::MissingField => site.missing(),
         ViewDefect::WrongKind => wrong_kind(spot, value),
-        ViewDefect::UnknownField => Wrong::Unknown(site.name, known_by(spot)),
+        ViewDefect::UnknownField => Wrong::Unknown(site.name, known_names(spot.field, spot.place)),
         ViewDefect::BadPattern => of_pattern(alloc, value),
         ViewDefect::BadName => match spot.field {
             ConfigField::StreamName => of_name(alloc, value),
@@ -127,14 +119,6 @@ fn wrong_of<'v>(alloc: Global, defect: ViewDefect, spot: ConfigSpot, site: Site<
         ViewDefect::BadLimit => of_value(value, "a whole number from 1 to 1000000"),
         ViewDefect::DuplicateReader => Wrong::Plain(": an earlier reader has the same name"),
         ViewDefect::TooMany => Wrong::TooMany(most_of(spot.field, value)),
-    }
-}
-
-// The fields of the table in which one is not known.
-fn known_by(spot: ConfigSpot) -> &'static [&'static str] {
-    match spot.field {
-        ConfigField::Unknown => field_names(spot.place),
-        _ => kind_names(),
     }
 }
 

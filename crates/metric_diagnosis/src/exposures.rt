@@ -1,7 +1,7 @@
 //! What a person is told of a stream that a way out would lose.
 ghost use Rattle.std.specs.Prelude.{◌≡◌, IfOk};
 ghost use Rattle.std.specs.Option.{option_map};
-ghost use Rattle.metric_diagnosis.specs.Exposures.{ExposureStands, place_of, place_of_reader};
+ghost use Rattle.metric_diagnosis.specs.Exposures.{ExposureNames, ExposureStands, place_of, place_of_reader};
 
 use crate::diagnosis::Diagnosis;
 use crate::places::{Place, position_of, source_of};
@@ -25,6 +25,7 @@ pub fn diagnose_exposure<'t>(
     fault: ExposureFault,
 ) -> Result<Diagnosis<'t, ExposureFault>, AllocError>
     ensures fault { IfOk result (λ told. told.fault ≡ fault) }
+    ensures file { IfOk result (λ told. ExposureNames pair.entry streams.now fault told.file.now) }
     ensures place { IfOk result (λ told. ExposureStands pair.entry.catalogue_source.text.now
         pair.entry.config_source.text.now streams.now fault told.position) }
 {

@@ -19,8 +19,8 @@
 //!       | ^
 //! ```
 //!
-//! `specs/Marks.antt`, `specs/Places.antt` and `specs/Exposures.antt` say where a fault stands; what the words say, no
-//! contract does.
+//! `specs/Marks.antt`, `specs/Places.antt` and `specs/Exposures.antt` say where a fault stands, and in which file; what the
+//! words say, no contract does.
 #![tactic(auto)]
 
 mod buckets;
@@ -49,6 +49,8 @@ mod shown;
 mod site;
 mod sources;
 mod spot;
+mod standing;
+mod standing_tables;
 mod stream_places;
 mod tables;
 mod told;

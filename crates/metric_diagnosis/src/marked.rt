@@ -1,18 +1,20 @@
-//! The position of a word in a text.
-ghost use Rattle.std.specs.Prelude.{◌≡◌, ◌≤◌, ◌+◌, length, IfSome};
-ghost use Rattle.metric_diagnosis.specs.Marks.{Marks, after, after_all, goes_on, start};
+//! The position of a fault in a text.
+ghost use Rattle.std.specs.Prelude.{◌≡◌, ◌≤◌, ◌+◌, length};
+ghost use Rattle.metric_diagnosis.specs.Marks.{IsMarked, after, after_all, goes_on, start};
 
+use crate::spot::Spot;
+use crate::standing_tables::stands;
 use metric_advice::Position;
 
-// The position of the word that stands from a byte on, where it does.
-pub(crate) fn marked(text: &[u8], start: usize, word: &[u8]) -> Option<Position>
-    ensures { IfSome result (Marks text.now word.now) }
+// The position of a byte of a text, where that is the place of a fault.
+pub(crate) fn marked(text: &[u8], start: usize, spot: Spot) -> Option<Position>
+    ensures { IsMarked text.now spot result }
 {
     if start > text.len() {
         return None;
     }
     let (before, rest) = text.split_at(start);
-    if rest.starts_with(word) {
+    if stands(text, spot, before, rest) {
         Some(after_all(before))
     } else {
         None

@@ -1,6 +1,6 @@
 //! Where the tables of a catalogue and a config that were read stand.
 ghost use Rattle.std.specs.Prelude.{◌≡◌, IfOk};
-ghost use Rattle.metric_diagnosis.specs.Places.{standing};
+ghost use Rattle.metric_diagnosis.specs.Places.{file_of, standing};
 
 use crate::sources::{NamedText, Pair};
 use metric_advice::{Position, locate_in_catalogue, locate_in_config};
@@ -26,7 +26,9 @@ pub(crate) fn told(
 }
 
 // The text that a place is in.
-pub(crate) fn source_of(pair: Pair<'_>, place: Place) -> NamedText<'_> {
+pub(crate) fn source_of(pair: Pair<'_>, place: Place) -> NamedText<'_>
+    ensures { result.name.now ≡ file_of pair.entry place }
+{
     match place {
         Place::Catalogue(_) => pair.catalogue_source,
         Place::Config(_) => pair.config_source,

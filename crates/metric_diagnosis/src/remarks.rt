@@ -1,6 +1,6 @@
 //! What a person is told of a remark.
 ghost use Rattle.std.specs.Prelude.{◌≡◌, IfOk};
-ghost use Rattle.metric_diagnosis.specs.Places.{RemarkStands, place_of_remark, streams_in};
+ghost use Rattle.metric_diagnosis.specs.Places.{RemarkNames, RemarkStands, place_of_remark, streams_in};
 
 use crate::buckets::told_bucket;
 use crate::collected::{words_of_idle_reader, words_of_level};
@@ -29,6 +29,7 @@ pub fn diagnose_remark<'t>(
     remark: Remark,
 ) -> Result<Diagnosis<'t, Remark>, AllocError>
     ensures fault { IfOk result (λ told. told.fault ≡ remark) }
+    ensures file { IfOk result (λ told. RemarkNames pair.entry remark told.file.now) }
     ensures place { IfOk result (λ told. RemarkStands pair.entry remark told.position) }
 {
     let (place, words) = told_of(alloc, pair, remark)?;

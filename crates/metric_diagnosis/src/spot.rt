@@ -1,6 +1,7 @@
 //! A fault of one text, told with where it stands.
-ghost use Rattle.std.specs.Prelude.{◌≡◌, [], IfOk, IfSome};
-ghost use Rattle.metric_diagnosis.specs.Marks.{IsMarked, Marks, catalogue_word, config_word, word_of};
+ghost use Rattle.std.specs.Prelude.{◌≡◌, IfOk};
+ghost use Rattle.metric_diagnosis.specs.Marks.{IsMarked};
+ghost use Rattle.metric_diagnosis.specs.declared.spot.Spot.TheVariants.{Entry, Table};
 
 use crate::catalogue_cause::catalogue_cause;
 use crate::config_cause::config_cause;
@@ -71,17 +72,14 @@ fn told_of_entry(
     list: CertList,
     number: usize,
 ) -> Result<(Option<Position>, String), AllocError>
-    ensures { IfOk result (λ told. IfSome told.0 (Marks text.now [])) }
+    ensures { IfOk result (λ told. IsMarked text.now (Entry list number) told.0) }
 {
     let name = list.name();
     let words = format!(in alloc;
         "{name} {number} is not one of a certificate: it was altered, or is of another format; make it anew"
     )?;
     let way = Way::top().then(name, Some(number));
-    let position = match find(alloc, text, way)? {
-        Some(start) => marked(text.as_bytes(), start, b""),
-        None => None,
-    };
+    let position = position_of(alloc, text, way, Spot::Entry(list, number))?;
     Ok((position, words))
 }
 
@@ -91,7 +89,7 @@ fn told_of_table(
     text: &str,
     fault: TableFault,
 ) -> Result<(Option<Position>, String), AllocError>
-    ensures { IfOk result (λ told. IfSome told.0 (Marks text.now (word_of fault))) }
+    ensures { IfOk result (λ told. IsMarked text.now (Table fault) told.0) }
 {
     match toml::table_from_str(alloc, text) {
         Ok(top) => told_in(alloc, text, &top, fault),
@@ -105,62 +103,28 @@ fn told_in(
     top: &Table,
     fault: TableFault,
 ) -> Result<(Option<Position>, String), AllocError>
-    ensures { IfOk result (λ told. IfSome told.0 (Marks text.now (word_of fault))) }
+    ensures { IfOk result (λ told. IsMarked text.now (Table fault) told.0) }
 {
     let (way, cause) = match fault {
         TableFault::Catalogue(defect, spot) => catalogue_cause(alloc, top, defect, spot),
         TableFault::Config(defect, spot) => config_cause(alloc, top, defect, spot),
     };
     let words = format!(in alloc; "{cause}")?;
-    let position = position_of(alloc, text, way, fault)?;
+    let position = position_of(alloc, text, way, Spot::Table(fault))?;
     Ok((position, words))
 }
 
-// Where the place that a way leads to stands.
+// Where the place that a way leads to stands, if it is that of the fault.
 fn position_of(
     alloc: Global,
     text: &str,
     way: Way<'_>,
-    fault: TableFault,
+    spot: Spot,
 ) -> Result<Option<Position>, AllocError>
-    ensures { IfOk result (λ found. IfSome found (Marks text.now (word_of fault))) }
+    ensures { IfOk result (λ found. IsMarked text.now spot found) }
 {
     match find(alloc, text, way)? {
-        Some(start) => Ok(marked(text.as_bytes(), start, word_of(fault).as_bytes())),
+        Some(start) => Ok(marked(text.as_bytes(), start, spot)),
         None => Ok(None),
-    }
-}
-
-// The word that stands where a fault does.
-fn word_of(fault: TableFault) -> &'static str
-    ensures { result.now ≡ word_of fault }
-{
-    match fault {
-        TableFault::Catalogue(defect, spot) => catalogue_word(defect, spot),
-        TableFault::Config(defect, spot) => config_word(defect, spot),
-    }
-}
-
-fn catalogue_word(defect: CatalogueDefect, spot: CatalogueSpot) -> &'static str
-    ensures { result.now ≡ catalogue_word defect spot }
-{
-    match defect {
-        CatalogueDefect::MissingField | CatalogueDefect::UnknownField => "",
-        _ => match spot.entry {
-            Some(_) => "",
-            None => spot.field.name(),
-        },
-    }
-}
-
-fn config_word(defect: ViewDefect, spot: ConfigSpot) -> &'static str
-    ensures { result.now ≡ config_word defect spot }
-{
-    match defect {
-        ViewDefect::MissingField | ViewDefect::UnknownField => "",
-        _ => match spot.kind {
-            Some(_) => "",
-            None => spot.field.name(),
-        },
     }
 }

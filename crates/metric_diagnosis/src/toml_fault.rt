@@ -1,5 +1,10 @@
 //! Why a text is no TOML.
+ghost use Rattle.std.specs.Prelude.{IfOk};
+ghost use Rattle.metric_diagnosis.specs.Marks.{IsMarked};
+ghost use Rattle.metric_diagnosis.specs.declared.spot.Spot.TheVariants.{Text};
+
 use crate::marked::marked;
+use crate::spot::Spot;
 use metric_advice::Position;
 use std::alloc::{AllocError, Global};
 use toml::de::Error;
@@ -8,7 +13,9 @@ use toml::de::Error;
 pub(crate) fn told_of_toml(
     alloc: Global,
     text: &str,
-) -> Result<(Option<Position>, String), AllocError> {
+) -> Result<(Option<Position>, String), AllocError>
+    ensures { IfOk result (λ told. IsMarked text.now Text told.0) }
+{
     match toml::table_from_str(alloc, text) {
         Ok(_) => Ok((None, String::from_str(alloc, "not valid TOML")?)),
         Err(error) => {
@@ -36,6 +43,8 @@ pub(crate) fn want_of_memory(alloc: Global) -> Result<String, AllocError> {
 }
 
 // Where a reader of TOML stopped.
-fn position_of(text: &str, error: &Error) -> Option<Position> {
-    marked(text.as_bytes(), error.span()?.start, b"")
+fn position_of(text: &str, error: &Error) -> Option<Position>
+    ensures { IsMarked text.now Text result }
+{
+    marked(text.as_bytes(), error.span()?.start, Spot::Text)
 }

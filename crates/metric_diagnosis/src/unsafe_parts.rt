@@ -1,6 +1,6 @@
 //! Why a catalogue and a config are not safe.
 ghost use Rattle.std.specs.Prelude.{◌≡◌, IfOk, slice_get};
-ghost use Rattle.metric_diagnosis.specs.Places.{PartStands, place_of_fault, place_of_limit, place_of_two, streams_in};
+ghost use Rattle.metric_diagnosis.specs.Places.{PartNames, PartStands, place_of_fault, place_of_limit, place_of_two, streams_in};
 
 use crate::diagnosis::Diagnosis;
 use crate::places::{Place, position_of, source_of, told};
@@ -27,6 +27,7 @@ pub fn diagnose_make<'t>(
     fault: MakeFault,
 ) -> Result<Diagnosis<'t, MakeFault>, AllocError>
     ensures fault { IfOk result (λ told. told.fault ≡ fault) }
+    ensures file { IfOk result (λ told. PartNames pair.entry fault told.file.now) }
     ensures place { IfOk result (λ told. PartStands pair.entry fault told.position) }
 {
     let (place, words) = told_of(alloc, pair, fault)?;
