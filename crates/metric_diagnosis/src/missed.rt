@@ -2,6 +2,7 @@
 use crate::sentence::write_three;
 use crate::shown::Quoted;
 use crate::sources::Pair;
+use crate::standing_tables::kind_name;
 use crate::told::instrument_of;
 use metric_base::Text;
 use metric_contents::{Instrument, Kind, Meter};
@@ -38,43 +39,26 @@ pub(crate) fn words_of_nothing(
     let Some(own) = pair.config.views().get(view as usize) else {
         return format!(in alloc; "view {view} selects no instrument");
     };
-    if !is_named(pair, &own.criteria) {
-        return format!(in alloc;
-            "view {view} selects no instrument: none has such a name as field \"instrument_name\" says"
-        );
+    if pair.catalogue.instruments().is_empty() {
+        return format!(in alloc; "view {view} selects no instrument: there is none");
     }
-    words_of_nearest(alloc, pair, view, &own.criteria)
-}
-
-// Whether some instrument has the name that a criterion asks for.
-fn is_named(pair: Pair<'_>, criteria: &Criteria) -> bool {
-    pair.catalogue
-        .instruments()
-        .iter()
-        .any(|instrument| has_name(criteria, instrument))
-}
-
-fn has_name(criteria: &Criteria, instrument: &Instrument) -> bool {
-    match &criteria.instrument_name {
-        Some(pattern) => pattern.matches(instrument.name.get()),
-        None => true,
-    }
-}
-
-fn words_of_nearest(
-    alloc: Global,
-    pair: Pair<'_>,
-    view: u32,
-    criteria: &Criteria,
-) -> Result<String, AllocError> {
-    match nearest(pair, criteria) {
+    match nearest(pair, &own.criteria) {
         Some((number, missed)) => {
             let instrument = instrument_of(pair.catalogue, number);
             format!(in alloc;
                 "view {view} selects no instrument: {instrument} comes nearest, and {missed}"
             )
         }
-        None => format!(in alloc; "view {view} selects no instrument: there is none"),
+        None => format!(in alloc;
+            "view {view} selects no instrument: none has such a name as field \"instrument_name\" says"
+        ),
+    }
+}
+
+fn has_name(criteria: &Criteria, instrument: &Instrument) -> bool {
+    match &criteria.instrument_name {
+        Some(pattern) => pattern.matches(instrument.name.get()),
+        None => true,
     }
 }
 
@@ -158,7 +142,7 @@ fn missed_kind<'t>(criterion: &Option<Kind>, kind: Kind) -> Option<Missed<'t>> {
     }
     Some(Missed {
         what: "its kind",
-        own: word_of(kind),
+        own: kind_name(kind),
         field: "instrument_type",
     })
 }
@@ -173,14 +157,4 @@ fn missed_text<'t>(
         return None;
     }
     Some(Missed { what, own, field })
-}
-
-// A kind as a catalogue names it.
-fn word_of(kind: Kind) -> &'static str {
-    match kind {
-        Kind::Counter => "counter",
-        Kind::UpDownCounter => "up_down_counter",
-        Kind::Histogram => "histogram",
-        Kind::Gauge => "gauge",
-    }
 }

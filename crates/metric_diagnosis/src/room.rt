@@ -4,7 +4,7 @@ ghost use Rattle.metric_diagnosis.specs.Places.{place_of_series, streams_in};
 
 use crate::cause::Named;
 use crate::places::{Place, told};
-use crate::sentence::{write_one, write_two};
+use crate::sentence::write_two;
 use crate::sources::Pair;
 use crate::stream_places::series_place;
 use crate::told::{ToldStream, instrument_of, told_stream};
@@ -58,18 +58,18 @@ enum Why {
     Low(i128),
     // The greatest sum is this.
     High(i128),
-    // A stream of this number has more series than its limit.
-    Series(u32),
 }
 
 fn why_of(total: u128, limit: Limit, instrument: &Instrument) -> Why {
     let count = u64::try_from(total).unwrap_or(u64::MAX);
     match limit {
-        Limit::Count => Why::Above("how many recordings", total, u128::from(u64::MAX)),
+        // Too many series are told of at their stream.
+        Limit::Count | Limit::Series { .. } => {
+            Why::Above("how many recordings", total, u128::from(u64::MAX))
+        }
         Limit::Amount => amount_of(count, instrument),
         Limit::SumLow => Why::Low(low(count, instrument.lo)),
         Limit::SumHigh => Why::High(high(count, instrument.hi)),
-        Limit::Series { stream } => Why::Series(stream),
     }
 }
 
@@ -100,13 +100,6 @@ impl fmt::Display for Why {
                     ("a sum may rise to ", &bound),
                     (", above ", &i64::MAX),
                     "",
-                )
-            }
-            Why::Series(stream) => {
-                write_one(
-                    f,
-                    ("stream ", &stream),
-                    " may have more series than its limit",
                 )
             }
         }

@@ -3,7 +3,7 @@ use crate::asserted::{OrFail, assert_equal};
 use metric_advice::{KeyList, Limit, Remark};
 use metric_catalogue::CatalogueFault;
 use metric_command_lines::LineFault;
-use metric_contents::Refusal;
+use metric_contents::{Kind, Refusal};
 use metric_glob::PatternFault;
 use metric_names::{NameFault, UnitFault};
 use metric_parts::InputFault;
@@ -136,6 +136,21 @@ const REMARKS: &[(Remark, &str)] = &[
         "instrument 4 has one value alone",
     ),
     (
+        Remark::UnusedValue {
+            instrument: 1,
+            key: 2,
+            value: 3,
+        },
+        "instrument 1 allows no combination with value 3 of key 2",
+    ),
+    (
+        Remark::LevelDelta {
+            reader: 4,
+            kind: Kind::Gauge,
+        },
+        "reader 4 has delta streams of Gauge",
+    ),
+    (
         Remark::OneBucket { stream: 2 },
         "one bucket of stream 2 takes each value",
     ),
@@ -148,6 +163,7 @@ const REMARKS: &[(Remark, &str)] = &[
     ),
     (Remark::NoBudget { recorder: 1 }, "recorder 1 has no budget"),
     (Remark::NoRecorder, "there is no recorder"),
+    (Remark::NoStream { reader: 5 }, "reader 5 has no stream"),
     (Remark::NoReader, "there is no reader"),
 ];
 
