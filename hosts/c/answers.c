@@ -1,4 +1,4 @@
-/* Makes every call of the header: done, refused, with null handles, with too little room, with bytes that are no text
+/* Makes every call of the header: done, refused, with null handles and those of another kind, with too little room, with bytes that are no text
  * and with numbers of nothing. The first call that answers or writes something else than its row says is told with its
  * line, and the status is then 1.
  */
@@ -926,6 +926,12 @@ static const struct row TARGET_ROWS[] = {
     { CALL(prometheus_target), .texts = "a.b1a_c2", GIVEN(ONE_LABEL), .text = TWO_LABELS },
 };
 
+/* What handles hold that were returned to their places. */
+static const struct row RETURNED_ROWS[] = {
+    { CALL(settle), .instrument = QUEUE, ALL_RECORDERS, .numbers = { 3, 0, 0, 26 } },
+    { CALL(stream), .numbers = { 2, 3, 1, 0, 0, 1 } },
+};
+
 /* Where a recorder and a reader were freed. */
 static const struct row FREED_ROWS[] = {
     { CALL(record), .recorder = NIGHT, .texts = "countrydepaid", GIVEN(PAID) },
@@ -1001,11 +1007,32 @@ static void check(const struct row *rows, size_t length) {
     }
 }
 
-/* The same calls where handles are null. */
+/* The same calls where handles are null, or of another kind. */
 static void check_freed(const struct row *rows, size_t length) {
     for (const struct row *row = rows; row < rows + length; row++) {
         struct told told = row->call(row);
         expect(told.answer == WORMWEEKLY_NOT_OPEN, row, &told);
+    }
+}
+
+enum { HANDLES = INSTRUMENTS + RECORDERS + READERS };
+
+/* The place of a handle of the first run: instruments first, then recorders, then readers. */
+static void **place_of(size_t at) {
+    if (at < INSTRUMENTS) {
+        return &instruments[at].at;
+    }
+    return at < INSTRUMENTS + RECORDERS ? &recorders[at - INSTRUMENTS].at : &readers[at - INSTRUMENTS - RECORDERS].at;
+}
+
+/* Moves each handle so many places on, as only a host that breaks the rules does. */
+static void turn(size_t places) {
+    void *held[HANDLES];
+    for (size_t at = 0; at < HANDLES; at++) {
+        held[at] = *place_of(at);
+    }
+    for (size_t at = 0; at < HANDLES; at++) {
+        *place_of((at + places) % HANDLES) = held[at];
     }
 }
 
@@ -1029,6 +1056,15 @@ int main(void) {
     check(ROWS(ARTICLES_ROWS));
     check(ROWS(QUEUE_ROWS));
     check(ROWS(TARGET_ROWS));
+    /* By three and by four places, a handle of each kind stands where one of each other kind is asked for, none where its own. */
+    for (size_t places = 3; places <= 4; places++) {
+        turn(places);
+        check_freed(ROWS(ORDERS_ROWS));
+        check_freed(ROWS(ARTICLES_ROWS));
+        check_freed(ROWS(QUEUE_ROWS));
+        turn(HANDLES - places);
+        check(ROWS(RETURNED_ROWS));
+    }
     wormweekly_free_recorder(&recorders[NIGHT]);
     wormweekly_free_reader(&readers[CHANGES]);
     check_freed(ROWS(FREED_ROWS));
@@ -1038,6 +1074,8 @@ int main(void) {
     check_freed(ROWS(ARTICLES_ROWS));
     check_freed(ROWS(QUEUE_ROWS));
     check(ROWS(TWIN_ROWS));
+    /* Each is freed whole, whichever call frees it. */
+    turn(3);
     free_all();
     printf("%d passed\n", passed);
     return 0;

@@ -13,7 +13,8 @@
  *   - a recorder belongs to the thread that records with it, a reader to the one that collects with it. They may be moved
  *     to another thread, by what orders memory (a mutex, a thread's start or join).
  *
- * Each kind is freed by its own call, which leaves it null. Freeing null does nothing. No order is asked for.
+ * Each kind is freed by its own call, which leaves it null. Freeing null does nothing. No order is asked for. A handle of
+ * another kind than a call asks for, as a cast may pass one, is answered as a null one, and freed as its own.
  *
  * TEXTS AND LISTS
  *
@@ -96,7 +97,7 @@ enum wormweekly_answer {
     WORMWEEKLY_MEMORY = 11,
     /* The recorder or reader is of another run, or does not agree with what the instrument has counted. */
     WORMWEEKLY_STRANGER = 12,
-    /* A handle is null. */
+    /* A handle is null, or is of another kind than the call asks for. */
     WORMWEEKLY_NOT_OPEN = 100,
     /* Bytes are no UTF-8, a length leads past the texts, or an attribute is of no kind. */
     WORMWEEKLY_NO_TEXT = 101,

@@ -1,6 +1,4 @@
-pub mod InstrumentHandles
-pub mod RecorderHandles
-pub mod ReaderHandles
+pub mod HandleOwnership
 pub mod TellingLaws
 pub mod ToldLaws
 pub mod PlaceLaws

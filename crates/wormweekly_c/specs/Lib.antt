@@ -1,6 +1,4 @@
-pub mod HeldInstrument
-pub mod HeldRecorder
-pub mod HeldReader
+pub mod Held
 pub mod Attributes
 pub mod InOrder
 pub mod Reading

@@ -11,24 +11,16 @@ use Rattle.metric_setup.specs.Setups.{IsFirstFault}
 use Rattle.metric_setup.specs.declared.fault.SetupFault.{SetupFault}
 use Rattle.metric_setup.specs.declared.fault.SetupFault.TheVariants.{Memory}
 use Rattle.metric_hosted.specs.Hosts.{HostedValue}
-use Rattle.metric_hosted.specs.declared.planned.HostedReader.{HostedReader}
-use Rattle.metric_hosted.specs.declared.planned.HostedRecorder.{HostedRecorder}
 use Rattle.wormweekly_c.specs.Texts.{AreFirst}
 use Rattle.wormweekly_c.specs.Telling.{TellsFault}
 use Rattle.wormweekly_c.specs.declared.opening.Counts.{Counts}
-use Rattle.wormweekly_c.specs.declared.instrument_handle.InstrumentHandle.{InstrumentHandle}
-use Rattle.wormweekly_c.specs.declared.reader_handle.ReaderHandle.{ReaderHandle}
-use Rattle.wormweekly_c.specs.declared.recorder_handle.RecorderHandle.{RecorderHandle}
+use Rattle.wormweekly_c.specs.declared.handles.Handle.{Handle}
+use Rattle.wormweekly_c.specs.declared.held.Held.{Held}
+use Rattle.wormweekly_c.specs.declared.held.Held.TheVariants.{Instrument, Recorder, Reader}
 
 -- what handles hold
-abbrev pub instruments_in : List InstrumentHandle → List (Option HostedValue)
-instruments_in handles = map (λ (handle : InstrumentHandle). handle.value) handles
-
-abbrev pub recorders_in : List RecorderHandle → List (Option HostedRecorder)
-recorders_in handles = map (λ (handle : RecorderHandle). handle.value) handles
-
-abbrev pub readers_in : List ReaderHandle → List (Option HostedReader)
-readers_in handles = map (λ (handle : ReaderHandle). handle.value) handles
+abbrev pub held_in : List Handle → List (Option Held)
+held_in handles = map (λ (handle : Handle). handle.value) handles
 
 -- how many of each a plan declares
 abbrev pub counts_of : PlanValue → Counts
@@ -56,52 +48,54 @@ pub record IsNewInstrument (plan : PlanValue) (start run number : ℕ) (h : Host
   pub new : h.cell ≡ new_cell h.cell.facts start h.cell.book
   pub stands : CellStands StandsMarked h.cell []
 
-abbrev pub HoldsNew : PlanValue → ℕ → ℕ → ℕ → Option HostedValue → Type 0
-HoldsNew plan start run number None = ⊥
-HoldsNew plan start run number (Some h) = IsNewInstrument plan start run number h
+abbrev pub HoldsNew : PlanValue → ℕ → ℕ → ℕ → Option Held → Type 0
+HoldsNew plan start run number (Some (Instrument h)) = IsNewInstrument plan start run number h
+HoldsNew plan start run number other = ⊥
 
 -- One of each that the plan declares, in order.
-pub record AreNewInstruments (plan : PlanValue) (start run : ℕ) (all : List (Option HostedValue))
+pub record AreNewInstruments (plan : PlanValue) (start run : ℕ) (all : List (Option Held))
     : Type 0 where
   pub count : length all ≡ length plan.facts.contents.instruments
-  pub each : (number : ℕ) (one : Option HostedValue) → slice_get all number ≡ Some one
+  pub each : (number : ℕ) (one : Option Held) → slice_get all number ≡ Some one
       → HoldsNew plan start run number one
 
 -- the seat of a recorder that was told of nothing
-abbrev pub new_recorder_of : PlanValue → ℕ → ℕ → Option HostedRecorder
+abbrev pub new_recorder_of : PlanValue → ℕ → ℕ → Option Held
 new_recorder_of plan run number =
-    Some
-    (record { plan = plan; seat = new_recorder false run (length plan.facts.instruments) number })
+    Some (Recorder (record {
+      plan = plan;
+      seat = new_recorder false run (length plan.facts.instruments) number;
+    }))
 
 -- one of each that the plan declares, in order
-abbrev pub new_recorders : PlanValue → ℕ → List (Option HostedRecorder)
+abbrev pub new_recorders : PlanValue → ℕ → List (Option Held)
 new_recorders plan run =
     map (new_recorder_of plan run) (range_with_len 0 (length plan.facts.contents.recorders))
 
 -- the seat of a reader that has seen nothing of a run, which started then
-abbrev pub new_reader_of : PlanValue → ℕ → ℕ → ℕ → Option HostedReader
+abbrev pub new_reader_of : PlanValue → ℕ → ℕ → ℕ → Option Held
 new_reader_of plan start run number =
-    Some (record {
+    Some (Reader (record {
       plan = plan;
       seat = new_collector run start (length plan.facts.instruments) number;
       last = None;
-    })
+    }))
 
-abbrev pub new_readers : PlanValue → ℕ → ℕ → List (Option HostedReader)
+abbrev pub new_readers : PlanValue → ℕ → ℕ → List (Option Held)
 new_readers plan start run =
     map (new_reader_of plan start run) (range_with_len 0 (length plan.config.readers))
 
 -- What the handles of a host hold.
 pub record AllHeld : Type 0 where
-  pub instruments : List (Option HostedValue)
-  pub recorders : List (Option HostedRecorder)
-  pub readers : List (Option HostedReader)
+  pub instruments : List (Option Held)
+  pub recorders : List (Option Held)
+  pub readers : List (Option Held)
 
-abbrev pub held_by : List InstrumentHandle → List RecorderHandle → List ReaderHandle → AllHeld
+abbrev pub held_by : List Handle → List Handle → List Handle → AllHeld
 held_by instruments recorders readers = record {
-  instruments = instruments_in instruments;
-  recorders = recorders_in recorders;
-  readers = readers_in readers;
+  instruments = held_in instruments;
+  recorders = held_in recorders;
+  readers = held_in readers;
 }
 
 -- whether some handle holds something
@@ -112,7 +106,7 @@ holds_something all =
 
 -- A run of a plan begins.
 pub record Begins (plan : PlanValue) (start run : ℕ) (before after : AllHeld) : Type 0 where
-  pub made : List (Option HostedValue)
+  pub made : List (Option Held)
   pub new : AreNewInstruments plan start run made
   pub instruments : AreFirst made before.instruments after.instruments
   pub recorders : AreFirst (new_recorders plan run) before.recorders after.recorders

@@ -1,6 +1,7 @@
 -- What settling through handles is answered.
 use Rattle.std.specs.Prelude.{◌≡◌, ◌+◌, ◌*◌, ◌^◌, ◌⊎◌, ℕ, ℤ, pos, neg_ℤ, ◌==◌, List, [], ◌∷◌}
-use Rattle.std.specs.Prelude.{Option, Some, None, Ok, Err, if◌then◌else◌, length, slice_get, take}
+use Rattle.std.specs.Prelude.{Option, Some, None, Ok, Err, if◌then◌else◌, length, map}
+use Rattle.std.specs.Prelude.{slice_get, take}
 use Rattle.metric_hosted.specs.declared.planned.HostedRecorder.{HostedRecorder}
 use Rattle.metric_hosted.specs.declared.settling.SeatTold.{SeatTold}
 use Rattle.metric_hosted.specs.Hosts.{HostedValue}
@@ -9,7 +10,14 @@ use Rattle.metric_seat.specs.declared.fault.FinishFault.{FinishFault}
 use Rattle.metric_seat.specs.declared.fault.FinishFault.TheVariants.{RecorderMissing, Stranger}
 use Rattle.metric_seat.specs.declared.fault.FinishFault.TheVariants.{AuditMismatch, Memory}
 use Rattle.metric_seat.specs.declared.total.Total.{Total}
+use Rattle.wormweekly_c.specs.Codes.{recorder_of}
+use Rattle.wormweekly_c.specs.Opening.{held_in}
+use Rattle.wormweekly_c.specs.declared.handles.Handle.{Handle}
 use Rattle.wormweekly_c.specs.declared.settlements.TotalOut.{TotalOut}
+
+-- the recorders that handles hold, none where one is null, or holds something else
+abbrev pub recorders_in : List Handle → List (Option HostedRecorder)
+recorders_in handles = map recorder_of (held_in handles)
 
 -- the number of a fault
 abbrev pub number_of_fault : FinishFault → ℕ
@@ -27,8 +35,8 @@ AllTold h (Some own ∷ seats) [] = ⊥
 AllTold h (Some own ∷ seats) (told ∷ others) =
     TellsOf own.plan h own.seat (Ok told) × AllTold h seats others
 
--- a handle tells nothing of the instrument for this reason: it is null,
--- or its seat is a stranger to it
+-- a handle tells nothing of the instrument for this reason: it holds no
+-- recorder, or that one's seat is a stranger to it
 abbrev pub TellsNot : HostedValue → Option HostedRecorder → ℕ → Type 0
 TellsNot h None code = code ≡ 100
 TellsNot h (Some own) code = (code ≡ 12) × (IsSeatOf own.plan h own.seat → ⊥)

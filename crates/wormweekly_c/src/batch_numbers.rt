@@ -1,13 +1,14 @@
 //! The numbers of a batch that stand in lists: boundaries, and counts of buckets.
 ghost use Rattle.std.specs.Prelude.{◌≡◌, ◌≢◌};
 ghost use Rattle.std.specs.Option.{MatchOption};
-ghost use Rattle.wormweekly_c.specs.Codes.{WhereHeld};
+ghost use Rattle.wormweekly_c.specs.Codes.{WhereHeld, reader_in};
 ghost use Rattle.wormweekly_c.specs.Texts.{AnswersAll};
 ghost use Rattle.wormweekly_c.specs.Walking.{boundaries_at, buckets_at, buckets_of};
 
 use crate::batches::{boundaries_of, point_at, stream_at};
 use crate::codes::{NOT_OPEN, UNKNOWN};
-use crate::reader_handle::ReaderHandle;
+use crate::handles::Handle;
+use crate::held::Held;
 use crate::texts::copy_all;
 use metric_aggregate::PointValue;
 use metric_hosted::HostedReader;
@@ -18,21 +19,22 @@ use std::alloc::Global;
 #[unsafe(no_mangle)]
 pub extern "C" fn wormweekly_boundaries(
     alloc: Global,
-    reader: &mut ReaderHandle,
+    reader: &mut Handle,
     at: usize,
     out: &mut [i64],
 ) -> u32
-    ensures answer { WhereHeld reader.old.value (result ≡ 100) (λ own.
+    ensures answer { WhereHeld (reader_in reader.old) (result ≡ 100) (λ own.
         MatchOption (boundaries_at own at) (result ≡ 106) (λ all.
         AnswersAll all out.old out.new result)) }
     ensures reader { reader.new.value ≡ reader.old.value }
     ensures refused { result ≢ 0 → out.new ≡ out.old }
 {
-    let Some(own) = reader.take(alloc) else {
-        return NOT_OPEN;
+    let held = reader.take(alloc);
+    let code = match held.as_deref() {
+        Some(Held::Reader(own)) => write_boundaries(own, at, out),
+        _ => NOT_OPEN,
     };
-    let code = write_boundaries(&own, at, out);
-    reader.put(own);
+    reader.put(alloc, held);
     code
 }
 
@@ -51,22 +53,23 @@ fn write_boundaries(own: &HostedReader, at: usize, out: &mut [i64]) -> u32
 #[unsafe(no_mangle)]
 pub extern "C" fn wormweekly_buckets(
     alloc: Global,
-    reader: &mut ReaderHandle,
+    reader: &mut Handle,
     at: usize,
     number: usize,
     out: &mut [u64],
 ) -> u32
-    ensures answer { WhereHeld reader.old.value (result ≡ 100) (λ own.
+    ensures answer { WhereHeld (reader_in reader.old) (result ≡ 100) (λ own.
         MatchOption (buckets_at own at number) (result ≡ 106) (λ all.
         AnswersAll all out.old out.new result)) }
     ensures reader { reader.new.value ≡ reader.old.value }
     ensures refused { result ≢ 0 → out.new ≡ out.old }
 {
-    let Some(own) = reader.take(alloc) else {
-        return NOT_OPEN;
+    let held = reader.take(alloc);
+    let code = match held.as_deref() {
+        Some(Held::Reader(own)) => write_buckets(own, at, number, out),
+        _ => NOT_OPEN,
     };
-    let code = write_buckets(&own, at, number, out);
-    reader.put(own);
+    reader.put(alloc, held);
     code
 }
 

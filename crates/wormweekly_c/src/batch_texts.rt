@@ -1,7 +1,7 @@
 //! The texts of a batch: of its streams, of their keys and of the values of attributes.
 ghost use Rattle.std.specs.Prelude.{◌≡◌, ◌≢◌, length, option_map};
 ghost use Rattle.std.specs.Option.{MatchOption, option_copied};
-ghost use Rattle.wormweekly_c.specs.Codes.{WhereHeld};
+ghost use Rattle.wormweekly_c.specs.Codes.{WhereHeld, reader_in};
 ghost use Rattle.wormweekly_c.specs.Texts.{AnswersAll, AnswersText};
 ghost use Rattle.wormweekly_c.specs.Walking.{attribute_of, entry_value, instrument_at, key_at, key_name, meter_at, meter_text, stream_text, text_at, text_of_value};
 ghost use Rattle.metric_lines.specs.Keys.{value_at};
@@ -9,7 +9,8 @@ ghost use Rattle.metric_lines.specs.Keys.{value_at};
 use crate::attributes::Attribute;
 use crate::batches::stream_at;
 use crate::codes::{NOT_OPEN, UNKNOWN};
-use crate::reader_handle::ReaderHandle;
+use crate::handles::Handle;
+use crate::held::Held;
 use crate::texts::{copy_all, write_found};
 use metric_contents::{Instrument, Key, Meter, Values};
 use metric_hosted::HostedReader;
@@ -22,24 +23,25 @@ use std::alloc::Global;
 #[unsafe(no_mangle)]
 pub extern "C" fn wormweekly_stream_text(
     alloc: Global,
-    reader: &mut ReaderHandle,
+    reader: &mut Handle,
     at: usize,
     kind: u32,
     out: &mut [u8],
     text_length: &mut usize,
 ) -> u32
-    ensures answer { WhereHeld reader.old.value (result ≡ 100) (λ own.
+    ensures answer { WhereHeld (reader_in reader.old) (result ≡ 100) (λ own.
         MatchOption (text_at own at kind) (result ≡ 106) (λ text.
         AnswersText text out.old out.new text_length.new result)) }
     ensures reader { reader.new.value ≡ reader.old.value }
     ensures refused { result ≢ 0 → out.new ≡ out.old }
     ensures length { result ≢ 0 → result ≢ 102 → text_length.new ≡ text_length.old }
 {
-    let Some(own) = reader.take(alloc) else {
-        return NOT_OPEN;
+    let held = reader.take(alloc);
+    let code = match held.as_deref() {
+        Some(Held::Reader(own)) => write_found(text_at(own, at, kind), out, text_length),
+        _ => NOT_OPEN,
     };
-    let code = write_found(text_at(&own, at, kind), out, text_length);
-    reader.put(own);
+    reader.put(alloc, held);
     code
 }
 
@@ -47,24 +49,25 @@ pub extern "C" fn wormweekly_stream_text(
 #[unsafe(no_mangle)]
 pub extern "C" fn wormweekly_key(
     alloc: Global,
-    reader: &mut ReaderHandle,
+    reader: &mut Handle,
     at: usize,
     key: usize,
     out: &mut [u8],
     text_length: &mut usize,
 ) -> u32
-    ensures answer { WhereHeld reader.old.value (result ≡ 100) (λ own.
+    ensures answer { WhereHeld (reader_in reader.old) (result ≡ 100) (λ own.
         MatchOption (key_name own at key) (result ≡ 106) (λ text.
         AnswersText text out.old out.new text_length.new result)) }
     ensures reader { reader.new.value ≡ reader.old.value }
     ensures refused { result ≢ 0 → out.new ≡ out.old }
     ensures length { result ≢ 0 → result ≢ 102 → text_length.new ≡ text_length.old }
 {
-    let Some(own) = reader.take(alloc) else {
-        return NOT_OPEN;
+    let held = reader.take(alloc);
+    let code = match held.as_deref() {
+        Some(Held::Reader(own)) => write_found(key_name(own, at, key), out, text_length),
+        _ => NOT_OPEN,
     };
-    let code = write_found(key_name(&own, at, key), out, text_length);
-    reader.put(own);
+    reader.put(alloc, held);
     code
 }
 
@@ -73,25 +76,26 @@ pub extern "C" fn wormweekly_key(
 #[unsafe(no_mangle)]
 pub extern "C" fn wormweekly_value(
     alloc: Global,
-    reader: &mut ReaderHandle,
+    reader: &mut Handle,
     at: usize,
     key: usize,
     entry: u16,
     value: &mut Attribute,
     out: &mut [u8],
 ) -> u32
-    ensures answer { WhereHeld reader.old.value (result ≡ 100) (λ own.
+    ensures answer { WhereHeld (reader_in reader.old) (result ≡ 100) (λ own.
         MatchOption (entry_value own at key entry) (result ≡ 106) (λ v.
         (value.new ≡ attribute_of v) × AnswersAll (text_of_value v) out.old out.new result)) }
     ensures reader { reader.new.value ≡ reader.old.value }
     ensures refused { result ≢ 0 → out.new ≡ out.old }
     ensures value { result ≢ 0 → result ≢ 102 → value.new ≡ value.old }
 {
-    let Some(own) = reader.take(alloc) else {
-        return NOT_OPEN;
+    let held = reader.take(alloc);
+    let code = match held.as_deref() {
+        Some(Held::Reader(own)) => write_entry(own, at, key, entry, value, out),
+        _ => NOT_OPEN,
     };
-    let code = write_entry(&own, at, key, entry, value, out);
-    reader.put(own);
+    reader.put(alloc, held);
     code
 }
 

@@ -1,11 +1,12 @@
 //! The batch that a reader keeps, point by point, for a host that writes a format of its own.
 ghost use Rattle.std.specs.Prelude.{◌≡◌, ◌≢◌, option_map};
 ghost use Rattle.std.specs.Option.{option_copied};
-ghost use Rattle.wormweekly_c.specs.Codes.{WhereHeld};
+ghost use Rattle.wormweekly_c.specs.Codes.{WhereHeld, reader_in};
 ghost use Rattle.wormweekly_c.specs.Walking.{IsWritten, aggregation_number, batch_out, boundaries_of, delta_number, kind_number, point_at, point_out, points_at, stream_at, stream_out, written_stream, written_value};
 
 use crate::codes::{DONE, NOT_OPEN, UNKNOWN};
-use crate::reader_handle::ReaderHandle;
+use crate::handles::Handle;
+use crate::held::Held;
 use metric_aggregate::PointValue;
 use metric_contents::{Kind, SetKey};
 use metric_history::{Point, StreamPoints};
@@ -56,65 +57,64 @@ pub struct PointOut {
 
 /// Writes what the batch that a reader keeps is.
 #[unsafe(no_mangle)]
-pub extern "C" fn wormweekly_batch(
-    alloc: Global,
-    reader: &mut ReaderHandle,
-    out: &mut BatchOut,
-) -> u32
-    ensures answer { WhereHeld reader.old.value (result ≡ 100) (λ own.
+pub extern "C" fn wormweekly_batch(alloc: Global, reader: &mut Handle, out: &mut BatchOut) -> u32
+    ensures answer { WhereHeld (reader_in reader.old) (result ≡ 100) (λ own.
         IsWritten (option_map batch_out own.last) out.new result) }
     ensures reader { reader.new.value ≡ reader.old.value }
     ensures refused { result ≢ 0 → out.new ≡ out.old }
 {
-    let Some(own) = reader.take(alloc) else {
-        return NOT_OPEN;
+    let held = reader.take(alloc);
+    let code = match held.as_deref() {
+        Some(Held::Reader(own)) => write(batch_out(own), out),
+        _ => NOT_OPEN,
     };
-    let found = batch_out(&own);
-    reader.put(own);
-    write(found, out)
+    reader.put(alloc, held);
+    code
 }
 
 /// Writes what the stream at a place of the batch is.
 #[unsafe(no_mangle)]
 pub extern "C" fn wormweekly_stream(
     alloc: Global,
-    reader: &mut ReaderHandle,
+    reader: &mut Handle,
     at: usize,
     out: &mut StreamOut,
 ) -> u32
-    ensures answer { WhereHeld reader.old.value (result ≡ 100) (λ own.
+    ensures answer { WhereHeld (reader_in reader.old) (result ≡ 100) (λ own.
         IsWritten (stream_out own at) out.new result) }
     ensures reader { reader.new.value ≡ reader.old.value }
     ensures refused { result ≢ 0 → out.new ≡ out.old }
 {
-    let Some(own) = reader.take(alloc) else {
-        return NOT_OPEN;
+    let held = reader.take(alloc);
+    let code = match held.as_deref() {
+        Some(Held::Reader(own)) => write(stream_out(own, at), out),
+        _ => NOT_OPEN,
     };
-    let found = stream_out(&own, at);
-    reader.put(own);
-    write(found, out)
+    reader.put(alloc, held);
+    code
 }
 
 /// Writes what a point of the stream at a place of the batch is.
 #[unsafe(no_mangle)]
 pub extern "C" fn wormweekly_point(
     alloc: Global,
-    reader: &mut ReaderHandle,
+    reader: &mut Handle,
     at: usize,
     number: usize,
     out: &mut PointOut,
 ) -> u32
-    ensures answer { WhereHeld reader.old.value (result ≡ 100) (λ own.
+    ensures answer { WhereHeld (reader_in reader.old) (result ≡ 100) (λ own.
         IsWritten (point_out own at number) out.new result) }
     ensures reader { reader.new.value ≡ reader.old.value }
     ensures refused { result ≢ 0 → out.new ≡ out.old }
 {
-    let Some(own) = reader.take(alloc) else {
-        return NOT_OPEN;
+    let held = reader.take(alloc);
+    let code = match held.as_deref() {
+        Some(Held::Reader(own)) => write(point_out(own, at, number), out),
+        _ => NOT_OPEN,
     };
-    let found = point_out(&own, at, number);
-    reader.put(own);
-    write(found, out)
+    reader.put(alloc, held);
+    code
 }
 
 // Writes what was found.

@@ -1,13 +1,13 @@
 //! What is left of budgets, and what an instrument has to spare.
-ghost use Rattle.std.specs.Prelude.{◌≡◌, ◌≢◌};
+ghost use Rattle.std.specs.Prelude.{◌≡◌, ◌≢◌, Some};
 ghost use Rattle.wormweekly_c.specs.Budgets.{AnswersAsk, AnswersBudget, IsGrantedTo};
-ghost use Rattle.wormweekly_c.specs.Codes.{WhereBoth, WhereHeld};
+ghost use Rattle.wormweekly_c.specs.Codes.{WhereBoth, WhereHeld, instrument_in, instrument_of, recorder_in, recorder_of};
 ghost use Rattle.wormweekly_c.specs.Granting.{Grants};
 ghost use Rattle.metric_hosted.specs.Budgets.{spare_of};
 
 use crate::codes::{DONE, NOT_OPEN, code_of};
-use crate::instrument_handle::InstrumentHandle;
-use crate::recorder_handle::RecorderHandle;
+use crate::handles::Handle;
+use crate::held::Held;
 use metric_hosted::{Budget, Hosted, HostedRecorder, Spare};
 use std::alloc::Global;
 
@@ -15,26 +15,24 @@ use std::alloc::Global;
 #[unsafe(no_mangle)]
 pub extern "C" fn wormweekly_budget(
     alloc: Global,
-    instrument: &mut InstrumentHandle,
-    recorder: &mut RecorderHandle,
+    instrument: &mut Handle,
+    recorder: &mut Handle,
     out: &mut Budget,
 ) -> u32
-    ensures answer { WhereBoth instrument.old.value recorder.old.value (result ≡ 100) (λ h own.
-        AnswersBudget h own out.new result) }
+    ensures answer { WhereBoth (instrument_in instrument.old) (recorder_in recorder.old)
+        (result ≡ 100) (λ h own. AnswersBudget h own out.new result) }
     ensures refused { result ≢ 0 → out.new ≡ out.old }
     ensures instrument { instrument.new.value ≡ instrument.old.value }
     ensures recorder { recorder.new.value ≡ recorder.old.value }
 {
-    let Some(held) = instrument.take(alloc) else {
-        return NOT_OPEN;
+    let held = instrument.take(alloc);
+    let own = recorder.take(alloc);
+    let code = match (held.as_deref(), own.as_deref()) {
+        (Some(Held::Instrument(held)), Some(Held::Recorder(own))) => write_budget(held, own, out),
+        _ => NOT_OPEN,
     };
-    let Some(own) = recorder.take(alloc) else {
-        instrument.put(held);
-        return NOT_OPEN;
-    };
-    let code = write_budget(&held, &own, out);
-    recorder.put(own);
-    instrument.put(held);
+    recorder.put(alloc, own);
+    instrument.put(alloc, held);
     code
 }
 
@@ -54,21 +52,25 @@ fn write_budget(held: &Hosted, own: &HostedRecorder, out: &mut Budget) -> u32
 /// Writes how many recordings may be granted to the recorders of an instrument beside their budgets, and how many of
 /// them are left.
 #[unsafe(no_mangle)]
-pub extern "C" fn wormweekly_spare(
-    alloc: Global,
-    instrument: &mut InstrumentHandle,
-    out: &mut Spare,
-) -> u32
-    ensures answer { WhereHeld instrument.old.value (result ≡ 100) (λ h.
+pub extern "C" fn wormweekly_spare(alloc: Global, instrument: &mut Handle, out: &mut Spare) -> u32
+    ensures answer { WhereHeld (instrument_in instrument.old) (result ≡ 100) (λ h.
         (result ≡ 0) × (out.new ≡ spare_of h)) }
     ensures refused { result ≢ 0 → out.new ≡ out.old }
     ensures instrument { instrument.new.value ≡ instrument.old.value }
 {
-    let Some(held) = instrument.take(alloc) else {
-        return NOT_OPEN;
+    let held = instrument.take(alloc);
+    let code = match held.as_deref() {
+        Some(Held::Instrument(held)) => write_spare(held, out),
+        _ => NOT_OPEN,
     };
+    instrument.put(alloc, held);
+    code
+}
+
+fn write_spare(held: &Hosted, out: &mut Spare) -> u32
+    ensures { (result ≡ 0) × (out.new ≡ spare_of held.now) }
+{
     *out = held.spare();
-    instrument.put(held);
     DONE
 }
 
@@ -77,14 +79,15 @@ pub extern "C" fn wormweekly_spare(
 #[unsafe(no_mangle)]
 pub extern "C" fn wormweekly_ask(
     alloc: Global,
-    instrument: &mut InstrumentHandle,
-    recorder: &mut RecorderHandle,
+    instrument: &mut Handle,
+    recorder: &mut Handle,
     amount: u64,
 ) -> u32
-    ensures answer { WhereBoth instrument.old.value recorder.old.value (result ≡ 100) (λ h own.
-        AnswersAsk h own amount result) }
-    ensures done { let held = instrument.new.value in
-        result ≡ 0 → IsGrantedTo instrument.old.value held recorder.old.value amount }
+    ensures answer { WhereBoth (instrument_in instrument.old) (recorder_in recorder.old)
+        (result ≡ 100) (λ h own. AnswersAsk h own amount result) }
+    ensures done { let before = instrument_in instrument.old in
+        let after = instrument_in instrument.new in
+        result ≡ 0 → IsGrantedTo before after (recorder_in recorder.old) amount }
     ensures refused { result ≢ 0 → instrument.new.value ≡ instrument.old.value }
     ensures recorder { recorder.new.value ≡ recorder.old.value }
 {
@@ -92,20 +95,28 @@ pub extern "C" fn wormweekly_ask(
         return NOT_OPEN;
     };
     let Some(own) = recorder.take(alloc) else {
-        instrument.put(held);
+        instrument.put(alloc, Some(held));
         return NOT_OPEN;
     };
-    let code = ask_one(&mut held, &own, amount);
-    recorder.put(own);
-    instrument.put(held);
+    let code = ask_held(&mut held, &own, amount);
+    recorder.put(alloc, Some(own));
+    instrument.put(alloc, Some(held));
     code
 }
 
-fn ask_one(held: &mut Hosted, own: &HostedRecorder, amount: u64) -> u32
-    ensures answer { AnswersAsk held.old own.now amount result }
-    ensures done { result ≡ 0 → Grants held.old held.new own.now.seat.number amount }
+fn ask_held(held: &mut Held, own: &Held, amount: u64) -> u32
+    ensures answer { WhereBoth (instrument_of (Some held.old)) (recorder_of (Some own.now))
+        (result ≡ 100) (λ h own. AnswersAsk h own amount result) }
+    ensures done { let before = instrument_of (Some held.old) in
+        let after = instrument_of (Some held.new) in
+        result ≡ 0 → IsGrantedTo before after (recorder_of (Some own.now)) amount }
     ensures refused { result ≢ 0 → held.new ≡ held.old }
 {
-    let answer = held.ask(own.plan.get(), &own.seat, amount);
-    code_of(&answer)
+    match (held, own) {
+        (Held::Instrument(held), Held::Recorder(own)) => {
+            let answer = held.ask(own.plan.get(), &own.seat, amount);
+            code_of(&answer)
+        }
+        _ => NOT_OPEN,
+    }
 }

@@ -1,7 +1,7 @@
 //! The start with a certificate.
 ghost use Rattle.std.specs.Prelude.{◌≡◌, ◌≢◌, ◌⊎◌, ◌↔◌, ◌&&◌, false, true, IsTrue, length, IfErr, IfOk};
 ghost use Rattle.std.specs.Str.{is_utf8};
-ghost use Rattle.wormweekly_c.specs.Opening.{Counted, IsOpenCode, Opens, held_by, holds_something, instruments_in, lacks_handles, readers_in, recorders_in};
+ghost use Rattle.wormweekly_c.specs.Opening.{Counted, IsOpenCode, Opens, held_by, held_in, holds_something, lacks_handles};
 ghost use Rattle.wormweekly_c.specs.Refusing.{IsWhy};
 ghost use Rattle.wormweekly_c.specs.Telling.{HasFront};
 ghost use Rattle.wormweekly_c.specs.Vouching.{HasVouchFault};
@@ -9,11 +9,9 @@ ghost use Rattle.metric_setup.specs.Setups.{IsVouchedPlan};
 
 use crate::codes::{MEMORY, NO_TEXT, OPEN};
 use crate::empty::holds_something;
-use crate::instrument_handle::InstrumentHandle;
+use crate::handles::Handle;
 use crate::no_plan::{NoPlan, tell};
 use crate::opening::{Counts, open_plan};
-use crate::reader_handle::ReaderHandle;
-use crate::recorder_handle::RecorderHandle;
 use crate::telling::told_fault;
 use metric_plan::Plan;
 use metric_setup::vouched_plan;
@@ -30,9 +28,9 @@ pub extern "C" fn wormweekly_open_certified_run(
     certificate: &[u8],
     start: u64,
     run: u64,
-    instruments: &mut [InstrumentHandle],
-    recorders: &mut [RecorderHandle],
-    readers: &mut [ReaderHandle],
+    instruments: &mut [Handle],
+    recorders: &mut [Handle],
+    readers: &mut [Handle],
     counts: &mut Counts,
     fault: &mut [u8],
     fault_length: &mut usize,
@@ -56,9 +54,9 @@ pub extern "C" fn wormweekly_open_certified_run(
     ensures fault { result ≢ 103 → (fault.new ≡ fault.old) × (fault_length.new ≡ 0) }
     ensures told { let HasFault = HasVouchFault catalogue.now config.now certificate.now in
         result ≡ 103 → HasFront HasFault fault.old fault.new fault_length.new }
-    ensures instruments { result ≢ 0 → instruments_in instruments.new ≡ instruments_in instruments.old }
-    ensures recorders { result ≢ 0 → recorders_in recorders.new ≡ recorders_in recorders.old }
-    ensures readers { result ≢ 0 → readers_in readers.new ≡ readers_in readers.old }
+    ensures instruments { result ≢ 0 → held_in instruments.new ≡ held_in instruments.old }
+    ensures recorders { result ≢ 0 → held_in recorders.new ≡ held_in recorders.old }
+    ensures readers { result ≢ 0 → held_in readers.new ≡ held_in readers.old }
 {
     *fault_length = 0;
     if holds_something(alloc, instruments, recorders, readers) {

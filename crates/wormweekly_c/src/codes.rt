@@ -16,7 +16,7 @@ pub const MEMORY: u32 = 11;
 /// The number of the refusal of a stranger.
 pub const STRANGER: u32 = 12;
 
-/// A handle is null.
+/// A handle is null, or holds another kind.
 pub const NOT_OPEN: u32 = 100;
 
 /// Bytes are no UTF-8, a length leads past the texts, or there is no such kind.

@@ -1,12 +1,12 @@
 //! Collections.
-ghost use Rattle.std.specs.Prelude.{◌≡◌, ◌≢◌, ◌⊎◌, IfOk, OnErr, OnOk};
-ghost use Rattle.wormweekly_c.specs.Codes.{Changes, IsCodeOf, WhereBoth, WhereHeld};
+ghost use Rattle.std.specs.Prelude.{◌≡◌, ◌≢◌, ◌⊎◌, IfOk, OnErr, OnOk, Some};
+ghost use Rattle.wormweekly_c.specs.Codes.{Changes, IsCodeOf, WhereBoth, WhereHeld, instrument_in, instrument_of, reader_in, reader_of};
 ghost use Rattle.wormweekly_c.specs.Collections.{Collects, Refuses, text_of};
 ghost use Rattle.wormweekly_c.specs.Texts.{AnswersText};
 
 use crate::codes::{MEMORY, NOT_OPEN, code_of};
-use crate::instrument_handle::InstrumentHandle;
-use crate::reader_handle::ReaderHandle;
+use crate::handles::Handle;
+use crate::held::Held;
 use crate::texts::copy_text;
 use metric_contents::Refusal;
 use metric_hosted::{Hosted, HostedReader};
@@ -17,14 +17,15 @@ use std::alloc::{AllocError, Global};
 #[unsafe(no_mangle)]
 pub extern "C" fn wormweekly_collect(
     alloc: Global,
-    instrument: &mut InstrumentHandle,
-    reader: &mut ReaderHandle,
+    instrument: &mut Handle,
+    reader: &mut Handle,
     now: u64,
 ) -> u32
-    ensures answer { WhereBoth instrument.old.value reader.old.value (result ≡ 100) (λ h own.
-        IsCodeOf (Refuses h own now) result) }
-    ensures done { let held = instrument.new.value in let own = reader.new.value in
-        result ≡ 0 → Changes instrument.old.value held reader.old.value own (Collects now) }
+    ensures answer { WhereBoth (instrument_in instrument.old) (reader_in reader.old)
+        (result ≡ 100) (λ h own. IsCodeOf (Refuses h own now) result) }
+    ensures done { result ≡ 0
+        → Changes (instrument_in instrument.old) (instrument_in instrument.new)
+        (reader_in reader.old) (reader_in reader.new) (Collects now) }
     ensures instrument { result ≢ 0 → instrument.new.value ≡ instrument.old.value }
     ensures reader { result ≢ 0 → reader.new.value ≡ reader.old.value }
 {
@@ -32,23 +33,31 @@ pub extern "C" fn wormweekly_collect(
         return NOT_OPEN;
     };
     let Some(mut own) = reader.take(alloc) else {
-        instrument.put(held);
+        instrument.put(alloc, Some(held));
         return NOT_OPEN;
     };
-    let code = collect_one(alloc, &mut held, &mut own, now);
-    reader.put(own);
-    instrument.put(held);
+    let code = collect_held(alloc, &mut held, &mut own, now);
+    reader.put(alloc, Some(own));
+    instrument.put(alloc, Some(held));
     code
 }
 
-fn collect_one(alloc: Global, held: &mut Hosted, own: &mut HostedReader, now: u64) -> u32
-    ensures answer { IsCodeOf (Refuses held.old own.old now) result }
-    ensures done { result ≡ 0 → Collects now held.old held.new own.old own.new }
+fn collect_held(alloc: Global, held: &mut Held, own: &mut Held, now: u64) -> u32
+    ensures answer { WhereBoth (instrument_of (Some held.old)) (reader_of (Some own.old))
+        (result ≡ 100) (λ h own. IsCodeOf (Refuses h own now) result) }
+    ensures done { result ≡ 0
+        → Changes (instrument_of (Some held.old)) (instrument_of (Some held.new))
+        (reader_of (Some own.old)) (reader_of (Some own.new)) (Collects now) }
     ensures instrument { result ≢ 0 → held.new ≡ held.old }
     ensures reader { result ≢ 0 → own.new ≡ own.old }
 {
-    let answer = collect_kept(alloc, held, own, now);
-    code_of(&answer)
+    match (held, own) {
+        (Held::Instrument(held), Held::Reader(own)) => {
+            let answer = collect_kept(alloc, held, own, now);
+            code_of(&answer)
+        }
+        _ => NOT_OPEN,
+    }
 }
 
 fn collect_kept(
@@ -73,21 +82,22 @@ fn collect_kept(
 #[unsafe(no_mangle)]
 pub extern "C" fn wormweekly_text(
     alloc: Global,
-    reader: &mut ReaderHandle,
+    reader: &mut Handle,
     out: &mut [u8],
     text_length: &mut usize,
 ) -> u32
-    ensures answer { WhereHeld reader.old.value (result ≡ 100) (λ own.
+    ensures answer { WhereHeld (reader_in reader.old) (result ≡ 100) (λ own.
         AnswersText (text_of own) out.old out.new text_length.new result ⊎ (result ≡ 11)) }
     ensures reader { reader.new.value ≡ reader.old.value }
     ensures refused { result ≢ 0 → out.new ≡ out.old }
     ensures length { result ≢ 0 → result ≢ 102 → text_length.new ≡ text_length.old }
 {
-    let Some(own) = reader.take(alloc) else {
-        return NOT_OPEN;
+    let held = reader.take(alloc);
+    let code = match held.as_deref() {
+        Some(Held::Reader(own)) => write_batch_text(alloc, own, out, text_length),
+        _ => NOT_OPEN,
     };
-    let code = write_batch_text(alloc, &own, out, text_length);
-    reader.put(own);
+    reader.put(alloc, held);
     code
 }
 

@@ -2,59 +2,33 @@
 ghost use Rattle.std.specs.Prelude.{◌≡◌};
 ghost use Rattle.std.specs.List.{list_any};
 ghost use Rattle.std.specs.Option.{is_some};
-ghost use Rattle.wormweekly_c.specs.Opening.{held_by, holds_something, instruments_in, readers_in, recorders_in};
+ghost use Rattle.wormweekly_c.specs.Opening.{held_by, held_in, holds_something};
 
-use crate::instrument_handle::InstrumentHandle;
-use crate::reader_handle::ReaderHandle;
-use crate::recorder_handle::RecorderHandle;
+use crate::handles::Handle;
 use std::alloc::Global;
 
 /// Whether some handle holds something. All hold the same afterwards.
 pub(crate) fn holds_something(
     alloc: Global,
-    instruments: &mut [InstrumentHandle],
-    recorders: &mut [RecorderHandle],
-    readers: &mut [ReaderHandle],
+    instruments: &mut [Handle],
+    recorders: &mut [Handle],
+    readers: &mut [Handle],
 ) -> bool
     ensures answer { let old = held_by instruments.old recorders.old readers.old in
         result ≡ holds_something old }
-    ensures instruments { instruments_in instruments.new ≡ instruments_in instruments.old }
-    ensures recorders { recorders_in recorders.new ≡ recorders_in recorders.old }
-    ensures readers { readers_in readers.new ≡ readers_in readers.old }
+    ensures instruments { held_in instruments.new ≡ held_in instruments.old }
+    ensures recorders { held_in recorders.new ≡ held_in recorders.old }
+    ensures readers { held_in readers.new ≡ held_in readers.old }
 {
-    let instrument = has_instrument(alloc, instruments);
-    let recorder = has_recorder(alloc, recorders);
-    let reader = has_reader(alloc, readers);
+    let instrument = is_some_open(alloc, instruments);
+    let recorder = is_some_open(alloc, recorders);
+    let reader = is_some_open(alloc, readers);
     instrument || recorder || reader
 }
 
-fn has_instrument(alloc: Global, handles: &mut [InstrumentHandle]) -> bool
-    ensures found { result ≡ list_any is_some (instruments_in handles.old) }
-    ensures kept { instruments_in handles.new ≡ instruments_in handles.old }
-{
-    let mut found = false;
-    for handle in handles.iter_mut() {
-        let is_open = handle.is_open(alloc);
-        found = found || is_open;
-    }
-    found
-}
-
-fn has_recorder(alloc: Global, handles: &mut [RecorderHandle]) -> bool
-    ensures found { result ≡ list_any is_some (recorders_in handles.old) }
-    ensures kept { recorders_in handles.new ≡ recorders_in handles.old }
-{
-    let mut found = false;
-    for handle in handles.iter_mut() {
-        let is_open = handle.is_open(alloc);
-        found = found || is_open;
-    }
-    found
-}
-
-fn has_reader(alloc: Global, handles: &mut [ReaderHandle]) -> bool
-    ensures found { result ≡ list_any is_some (readers_in handles.old) }
-    ensures kept { readers_in handles.new ≡ readers_in handles.old }
+fn is_some_open(alloc: Global, handles: &mut [Handle]) -> bool
+    ensures found { result ≡ list_any is_some (held_in handles.old) }
+    ensures kept { held_in handles.new ≡ held_in handles.old }
 {
     let mut found = false;
     for handle in handles.iter_mut() {

@@ -3,14 +3,15 @@ ghost use Rattle.std.specs.Prelude.{◌≡◌, ◌≢◌, ◌⊎◌, ◌++◌, I
 ghost use Rattle.std.specs.Option.{option_map};
 ghost use Rattle.metric_advice.specs.Explanations.{explained, told_of};
 ghost use Rattle.wormweekly_c.specs.Attributes.{attributes_from, looked_at};
-ghost use Rattle.wormweekly_c.specs.Codes.{WhereHeld};
+ghost use Rattle.wormweekly_c.specs.Codes.{WhereHeld, recorder_in};
 ghost use Rattle.wormweekly_c.specs.Explaining.{AnswersExplained, AnswersExplanation, BeginsWith, IsExplanation};
 ghost use Rattle.metric_contents.specs.Attributes.{given_by};
 ghost use Rattle.metric_text.specs.Lists.{numbered};
 
 use crate::attributes::{Attribute, Unread, all_attributes, looked_at};
 use crate::codes::{MEMORY, NO_TEXT, NOT_OPEN};
-use crate::recorder_handle::RecorderHandle;
+use crate::handles::Handle;
+use crate::held::Held;
 use crate::texts::copy_text;
 use metric_advice::{Explanation, Mistake, explain_refusal};
 use metric_contents::Attr;
@@ -25,7 +26,7 @@ use std::alloc::{AllocError, Global};
 #[unsafe(no_mangle)]
 pub extern "C" fn wormweekly_explain(
     alloc: Global,
-    recorder: &mut RecorderHandle,
+    recorder: &mut Handle,
     instrument: u32,
     texts: &[u8],
     given: &[Attribute],
@@ -34,26 +35,27 @@ pub extern "C" fn wormweekly_explain(
     text_length: &mut usize,
 ) -> u32
     ensures answer { let read = attributes_from (looked_at given.now) texts.now in
-        WhereHeld recorder.old.value (result ≡ 100) (λ own.
+        WhereHeld (recorder_in recorder.old) (result ≡ 100) (λ own.
         AnswersExplained own.plan instrument read value out.old out.new text_length.new result) }
     ensures recorder { recorder.new.value ≡ recorder.old.value }
     ensures refused { result ≢ 0 → out.new ≡ out.old }
     ensures length { result ≢ 0 → result ≢ 102 → text_length.new ≡ text_length.old }
 {
-    let Some(own) = recorder.take(alloc) else {
-        return NOT_OPEN;
+    let held = recorder.take(alloc);
+    let code = match held.as_deref() {
+        Some(Held::Recorder(own)) => explain_given(
+            alloc,
+            own,
+            instrument,
+            texts,
+            looked_at(given),
+            value,
+            out,
+            text_length,
+        ),
+        _ => NOT_OPEN,
     };
-    let code = explain_given(
-        alloc,
-        &own,
-        instrument,
-        texts,
-        looked_at(given),
-        value,
-        out,
-        text_length,
-    );
-    recorder.put(own);
+    recorder.put(alloc, held);
     code
 }
 

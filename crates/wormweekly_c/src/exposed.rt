@@ -1,12 +1,13 @@
 //! Whether a reader's streams can stand in a page for Prometheus.
 ghost use Rattle.std.specs.Prelude.{◌≡◌, ◌≢◌, ◌⊎◌, IfOk, OnErr};
 ghost use Rattle.std.specs.String.{string_bytes};
-ghost use Rattle.wormweekly_c.specs.Codes.{WhereHeld};
+ghost use Rattle.wormweekly_c.specs.Codes.{WhereHeld, reader_in};
 ghost use Rattle.wormweekly_c.specs.Exposed.{AnswersExposed, exposed};
 ghost use Rattle.wormweekly_c.specs.Texts.{IsFront};
 
 use crate::codes::{DONE, FAULT, MEMORY, NOT_OPEN};
-use crate::reader_handle::ReaderHandle;
+use crate::handles::Handle;
+use crate::held::Held;
 use crate::texts::copy_front;
 use metric_exposure::{ExposureFault, expose};
 use metric_hosted::HostedReader;
@@ -17,22 +18,23 @@ use std::alloc::{AllocError, Global};
 #[unsafe(no_mangle)]
 pub extern "C" fn wormweekly_expose(
     alloc: Global,
-    reader: &mut ReaderHandle,
+    reader: &mut Handle,
     fault: &mut [u8],
     fault_length: &mut usize,
 ) -> u32
-    ensures answer { WhereHeld reader.old.value (result ≡ 100) (λ own.
+    ensures answer { WhereHeld (reader_in reader.old) (result ≡ 100) (λ own.
         AnswersExposed (exposed own) fault.old fault.new fault_length.new result
         ⊎ (result ≡ 11)) }
     ensures reader { reader.new.value ≡ reader.old.value }
     ensures fault { result ≢ 103 → (fault.new ≡ fault.old) × (fault_length.new ≡ 0) }
 {
     *fault_length = 0;
-    let Some(own) = reader.take(alloc) else {
-        return NOT_OPEN;
+    let held = reader.take(alloc);
+    let code = match held.as_deref() {
+        Some(Held::Reader(own)) => write_exposed(alloc, own, fault, fault_length),
+        _ => NOT_OPEN,
     };
-    let code = write_exposed(alloc, &own, fault, fault_length);
-    reader.put(own);
+    reader.put(alloc, held);
     code
 }
 

@@ -1,10 +1,11 @@
 //! How often the instruments of a plan may be recorded.
 ghost use Rattle.std.specs.Prelude.{◌≡◌, ◌≢◌, ◌⊎◌, IfOk, map};
-ghost use Rattle.wormweekly_c.specs.Codes.{WhereHeld};
+ghost use Rattle.wormweekly_c.specs.Codes.{WhereHeld, recorder_in};
 ghost use Rattle.wormweekly_c.specs.Headrooms.{AnswersHeadrooms, AreHeadrooms, limit_number, stream_of, written_headroom};
 
 use crate::codes::{MEMORY, NOT_OPEN};
-use crate::recorder_handle::RecorderHandle;
+use crate::handles::Handle;
+use crate::held::Held;
 use crate::texts::copy_all;
 use metric_advice::{Headroom, Limit, headrooms};
 use metric_plan::Plan;
@@ -27,19 +28,20 @@ pub struct HeadroomOut {
 #[unsafe(no_mangle)]
 pub extern "C" fn wormweekly_headrooms(
     alloc: Global,
-    recorder: &mut RecorderHandle,
+    recorder: &mut Handle,
     out: &mut [HeadroomOut],
 ) -> u32
-    ensures answer { WhereHeld recorder.old.value (result ≡ 100) (λ own.
+    ensures answer { WhereHeld (recorder_in recorder.old) (result ≡ 100) (λ own.
         AnswersHeadrooms own.plan out.old out.new result ⊎ (result ≡ 11)) }
     ensures recorder { recorder.new.value ≡ recorder.old.value }
     ensures refused { result ≢ 0 → out.new ≡ out.old }
 {
-    let Some(own) = recorder.take(alloc) else {
-        return NOT_OPEN;
+    let held = recorder.take(alloc);
+    let code = match held.as_deref() {
+        Some(Held::Recorder(own)) => write_headrooms(alloc, own.plan.get(), out),
+        _ => NOT_OPEN,
     };
-    let code = write_headrooms(alloc, own.plan.get(), out);
-    recorder.put(own);
+    recorder.put(alloc, held);
     code
 }
 

@@ -1,15 +1,15 @@
 //! The instruments of a certified plan, for a host that calls them by C.
 //!
 //! A host keeps a handle for each instrument, each recorder and each reader: a struct of one pointer, null before it is
-//! opened and after it is freed. Each call is total: a handle that is null, a buffer that is too short and bytes that
-//! are no UTF-8 are answers. The host keeps a mutex for each instrument, and makes each call on it under that; a
+//! opened and after it is freed. Each call is total: a handle that is null or holds another kind, a buffer that is too
+//! short and bytes that are no UTF-8 are answers. The host keeps a mutex for each instrument, and makes each call on it under that; a
 //! recorder or a reader belongs to one thread at a time.
 //!
 //! | Answer | What it says |
 //! |---|---|
 //! | 0 | done |
 //! | 1 to 14 | the number of a refusal |
-//! | 100 | a handle is null |
+//! | 100 | a handle is null, or holds another kind |
 //! | 101 | bytes are no UTF-8, a length leads past the texts, or an attribute is of no kind |
 //! | 102 | a buffer, or a list of handles, is too short |
 //! | 103 | the catalogue or the config is at fault |
@@ -34,9 +34,10 @@ mod ending;
 mod explaining;
 mod exposed;
 mod grants;
+mod handles;
 mod headrooms;
+mod held;
 mod in_order;
-mod instrument_handle;
 mod linting;
 mod names;
 mod next;
@@ -48,8 +49,6 @@ mod pairs;
 mod parts;
 mod prepared;
 mod ranges;
-mod reader_handle;
-mod recorder_handle;
 mod recordings;
 mod resources;
 mod settlements;
@@ -73,8 +72,8 @@ pub use ending::{
 pub use explaining::wormweekly_explain;
 pub use exposed::wormweekly_expose;
 pub use grants::wormweekly_grant;
+pub use handles::Handle;
 pub use headrooms::{HeadroomOut, wormweekly_headrooms};
-pub use instrument_handle::InstrumentHandle;
 pub use linting::wormweekly_lint;
 pub use names::{wormweekly_name, wormweekly_reader_name};
 pub use next::wormweekly_next_run;
@@ -83,8 +82,6 @@ pub use otlp::wormweekly_otlp;
 pub use pages::{wormweekly_prometheus, wormweekly_prometheus_target};
 pub use prepared::{wormweekly_prepare, wormweekly_record_list, wormweekly_record_prepared};
 pub use ranges::{RangeOut, wormweekly_range};
-pub use reader_handle::ReaderHandle;
-pub use recorder_handle::RecorderHandle;
 pub use recordings::wormweekly_record;
 pub use settlements::{TotalOut, wormweekly_settle};
 pub use warnings::wormweekly_warnings;

@@ -1,13 +1,13 @@
 //! The names that a plan declares.
 ghost use Rattle.std.specs.Prelude.{◌≡◌, ◌≢◌, option_map};
 ghost use Rattle.std.specs.Option.{MatchOption};
-ghost use Rattle.wormweekly_c.specs.Codes.{WhereHeld};
+ghost use Rattle.wormweekly_c.specs.Codes.{WhereHeld, reader_in, recorder_in};
 ghost use Rattle.wormweekly_c.specs.Names.{instrument_name, meter_name, name_of, reader_name, recorder_name};
 ghost use Rattle.wormweekly_c.specs.Texts.{AnswersText};
 
 use crate::codes::NOT_OPEN;
-use crate::reader_handle::ReaderHandle;
-use crate::recorder_handle::RecorderHandle;
+use crate::handles::Handle;
+use crate::held::Held;
 use crate::texts::write_found;
 use metric_catalogue::Catalogue;
 use metric_plan::Plan;
@@ -19,25 +19,29 @@ use std::alloc::Global;
 #[unsafe(no_mangle)]
 pub extern "C" fn wormweekly_name(
     alloc: Global,
-    recorder: &mut RecorderHandle,
+    recorder: &mut Handle,
     kind: u32,
     number: u32,
     out: &mut [u8],
     text_length: &mut usize,
 ) -> u32
-    ensures answer { WhereHeld recorder.old.value (result ≡ 100) (λ own.
+    ensures answer { WhereHeld (recorder_in recorder.old) (result ≡ 100) (λ own.
         MatchOption (name_of own.plan kind number) (result ≡ 106) (λ name.
         AnswersText name out.old out.new text_length.new result)) }
     ensures recorder { recorder.new.value ≡ recorder.old.value }
     ensures refused { result ≢ 0 → out.new ≡ out.old }
     ensures length { result ≢ 0 → result ≢ 102 → text_length.new ≡ text_length.old }
 {
-    let Some(own) = recorder.take(alloc) else {
-        return NOT_OPEN;
+    let held = recorder.take(alloc);
+    let code = match held.as_deref() {
+        Some(Held::Recorder(own)) => write_found(
+            name_of(own.plan.get(), kind, number as usize),
+            out,
+            text_length,
+        ),
+        _ => NOT_OPEN,
     };
-    let name = name_of(own.plan.get(), kind, number as usize);
-    let code = write_found(name, out, text_length);
-    recorder.put(own);
+    recorder.put(alloc, held);
     code
 }
 
@@ -45,25 +49,29 @@ pub extern "C" fn wormweekly_name(
 #[unsafe(no_mangle)]
 pub extern "C" fn wormweekly_reader_name(
     alloc: Global,
-    reader: &mut ReaderHandle,
+    reader: &mut Handle,
     kind: u32,
     number: u32,
     out: &mut [u8],
     text_length: &mut usize,
 ) -> u32
-    ensures answer { WhereHeld reader.old.value (result ≡ 100) (λ own.
+    ensures answer { WhereHeld (reader_in reader.old) (result ≡ 100) (λ own.
         MatchOption (name_of own.plan kind number) (result ≡ 106) (λ name.
         AnswersText name out.old out.new text_length.new result)) }
     ensures reader { reader.new.value ≡ reader.old.value }
     ensures refused { result ≢ 0 → out.new ≡ out.old }
     ensures length { result ≢ 0 → result ≢ 102 → text_length.new ≡ text_length.old }
 {
-    let Some(own) = reader.take(alloc) else {
-        return NOT_OPEN;
+    let held = reader.take(alloc);
+    let code = match held.as_deref() {
+        Some(Held::Reader(own)) => write_found(
+            name_of(own.plan.get(), kind, number as usize),
+            out,
+            text_length,
+        ),
+        _ => NOT_OPEN,
     };
-    let name = name_of(own.plan.get(), kind, number as usize);
-    let code = write_found(name, out, text_length);
-    reader.put(own);
+    reader.put(alloc, held);
     code
 }
 

@@ -1,14 +1,13 @@
 //! The next run of a plan.
 ghost use Rattle.std.specs.Prelude.{◌≡◌, ◌≢◌, ◌⊎◌, ◌↔◌, false, true, length};
-ghost use Rattle.wormweekly_c.specs.Codes.{WhereHeld};
-ghost use Rattle.wormweekly_c.specs.Opening.{BeginsOf, IsNextCode, held_by, holds_something, instruments_in, lacks_handles, readers_in, recorders_in};
+ghost use Rattle.wormweekly_c.specs.Codes.{WhereHeld, recorder_in};
+ghost use Rattle.wormweekly_c.specs.Opening.{BeginsOf, IsNextCode, held_by, held_in, holds_something, lacks_handles};
 
 use crate::codes::{FAULT, NOT_OPEN, OPEN};
 use crate::empty::holds_something;
-use crate::instrument_handle::InstrumentHandle;
+use crate::handles::Handle;
+use crate::held::Held;
 use crate::opening::{Counts, open_shared};
-use crate::reader_handle::ReaderHandle;
-use crate::recorder_handle::RecorderHandle;
 use metric_hosted::HostedRecorder;
 use std::alloc::Global;
 
@@ -17,46 +16,47 @@ use std::alloc::Global;
 #[unsafe(no_mangle)]
 pub extern "C" fn wormweekly_next_run(
     alloc: Global,
-    recorder: &mut RecorderHandle,
+    recorder: &mut Handle,
     start: u64,
     run: u64,
-    instruments: &mut [InstrumentHandle],
-    recorders: &mut [RecorderHandle],
-    readers: &mut [ReaderHandle],
+    instruments: &mut [Handle],
+    recorders: &mut [Handle],
+    readers: &mut [Handle],
     counts: &mut Counts,
 ) -> u32
     ensures opened { let old = held_by instruments.old recorders.old readers.old in
         let new = held_by instruments.new recorders.new readers.new in
-        result ≡ 0 → WhereHeld recorder.old.value ⊥ (λ own.
+        result ≡ 0 → WhereHeld (recorder_in recorder.old) ⊥ (λ own.
         BeginsOf own.plan start run counts.new old new) }
     ensures held { let old = held_by instruments.old recorders.old readers.old in
         (result ≡ 109) ↔ (holds_something old ≡ true) }
-    ensures answer { (result ≡ 109) ⊎ WhereHeld recorder.old.value (result ≡ 100)
+    ensures answer { (result ≡ 109) ⊎ WhereHeld (recorder_in recorder.old) (result ≡ 100)
         (λ own. IsNextCode own.plan result) }
     ensures short { result ≡ 102 → lacks_handles counts.new
         (length instruments.old) (length recorders.old) (length readers.old) ≡ true }
     ensures recorder { recorder.new.value ≡ recorder.old.value }
-    ensures instruments { result ≢ 0 → instruments_in instruments.new ≡ instruments_in instruments.old }
-    ensures recorders { result ≢ 0 → recorders_in recorders.new ≡ recorders_in recorders.old }
-    ensures readers { result ≢ 0 → readers_in readers.new ≡ readers_in readers.old }
+    ensures instruments { result ≢ 0 → held_in instruments.new ≡ held_in instruments.old }
+    ensures recorders { result ≢ 0 → held_in recorders.new ≡ held_in recorders.old }
+    ensures readers { result ≢ 0 → held_in readers.new ≡ held_in readers.old }
 {
     if holds_something(alloc, instruments, recorders, readers) {
         return OPEN;
     }
-    let Some(own) = recorder.take(alloc) else {
-        return NOT_OPEN;
+    let held = recorder.take(alloc);
+    let code = match held.as_deref() {
+        Some(Held::Recorder(own)) => open_next(
+            alloc,
+            own,
+            start,
+            run,
+            instruments,
+            recorders,
+            readers,
+            counts,
+        ),
+        _ => NOT_OPEN,
     };
-    let code = open_next(
-        alloc,
-        &own,
-        start,
-        run,
-        instruments,
-        recorders,
-        readers,
-        counts,
-    );
-    recorder.put(own);
+    recorder.put(alloc, held);
     code
 }
 
@@ -65,9 +65,9 @@ fn open_next(
     own: &HostedRecorder,
     start: u64,
     run: u64,
-    instruments: &mut [InstrumentHandle],
-    recorders: &mut [RecorderHandle],
-    readers: &mut [ReaderHandle],
+    instruments: &mut [Handle],
+    recorders: &mut [Handle],
+    readers: &mut [Handle],
     counts: &mut Counts,
 ) -> u32
     ensures opened { let old = held_by instruments.old recorders.old readers.old in

@@ -1,7 +1,7 @@
 //! The start.
 ghost use Rattle.std.specs.Prelude.{◌≡◌, ◌≢◌, ◌≤◌, ◌⊎◌, ◌↔◌, ◌&&◌, false, true, IsTrue, length, IfErr, IfOk};
 ghost use Rattle.std.specs.Str.{is_utf8};
-ghost use Rattle.wormweekly_c.specs.Opening.{AreNewInstruments, Begins, Counted, HasFault, IsOpenCode, Opens, counts_of, held_by, holds_something, instruments_in, lacks_handles, new_readers, new_recorders, readers_in, recorders_in};
+ghost use Rattle.wormweekly_c.specs.Opening.{AreNewInstruments, Begins, Counted, HasFault, IsOpenCode, Opens, counts_of, held_by, held_in, holds_something, lacks_handles, new_readers, new_recorders};
 ghost use Rattle.wormweekly_c.specs.Refusing.{IsWhy};
 ghost use Rattle.wormweekly_c.specs.Telling.{HasFront};
 ghost use Rattle.wormweekly_c.specs.Texts.{AreFirst};
@@ -9,10 +9,9 @@ ghost use Rattle.metric_setup.specs.Setups.{IsCertifiedPlan};
 
 use crate::codes::{DONE, MEMORY, NO_TEXT, OPEN, TOO_SHORT};
 use crate::empty::holds_something;
-use crate::instrument_handle::InstrumentHandle;
+use crate::handles::Handle;
+use crate::held::Held;
 use crate::no_plan::{NoPlan, tell};
-use crate::reader_handle::ReaderHandle;
-use crate::recorder_handle::RecorderHandle;
 use crate::telling::told_fault;
 use metric_base::{Copied, Shared};
 use metric_hosted::{Hosted, HostedReader, HostedRecorder, ReaderSeat, RecorderSeat};
@@ -41,9 +40,9 @@ pub extern "C" fn wormweekly_open_run(
     config: &[u8],
     start: u64,
     run: u64,
-    instruments: &mut [InstrumentHandle],
-    recorders: &mut [RecorderHandle],
-    readers: &mut [ReaderHandle],
+    instruments: &mut [Handle],
+    recorders: &mut [Handle],
+    readers: &mut [Handle],
     counts: &mut Counts,
     fault: &mut [u8],
     fault_length: &mut usize,
@@ -63,9 +62,9 @@ pub extern "C" fn wormweekly_open_run(
     ensures fault { result ≢ 103 → (fault.new ≡ fault.old) × (fault_length.new ≡ 0) }
     ensures told { let HasFault = HasFault catalogue.now config.now in
         result ≡ 103 → HasFront HasFault fault.old fault.new fault_length.new }
-    ensures instruments { result ≢ 0 → instruments_in instruments.new ≡ instruments_in instruments.old }
-    ensures recorders { result ≢ 0 → recorders_in recorders.new ≡ recorders_in recorders.old }
-    ensures readers { result ≢ 0 → readers_in readers.new ≡ readers_in readers.old }
+    ensures instruments { result ≢ 0 → held_in instruments.new ≡ held_in instruments.old }
+    ensures recorders { result ≢ 0 → held_in recorders.new ≡ held_in recorders.old }
+    ensures readers { result ≢ 0 → held_in readers.new ≡ held_in readers.old }
 {
     *fault_length = 0;
     if holds_something(alloc, instruments, recorders, readers) {
@@ -125,9 +124,9 @@ pub(crate) fn open_plan(
     plan: Plan,
     start: u64,
     run: u64,
-    instruments: &mut [InstrumentHandle],
-    recorders: &mut [RecorderHandle],
-    readers: &mut [ReaderHandle],
+    instruments: &mut [Handle],
+    recorders: &mut [Handle],
+    readers: &mut [Handle],
     counts: &mut Counts,
 ) -> u32
     requires { IsTrue plan.is_certified }
@@ -163,9 +162,9 @@ pub(crate) fn open_shared(
     plan: &Shared<Plan>,
     start: u64,
     run: u64,
-    instruments: &mut [InstrumentHandle],
-    recorders: &mut [RecorderHandle],
-    readers: &mut [ReaderHandle],
+    instruments: &mut [Handle],
+    recorders: &mut [Handle],
+    readers: &mut [Handle],
     counts: &mut Counts,
 ) -> u32
     requires { IsTrue plan.now.is_certified }
@@ -227,19 +226,19 @@ fn place<T: Drop>(places: &mut [T], made: Vec<T>)
 // What a run begins with.
 #[derive(Drop)]
 struct NewRun {
-    instruments: Vec<InstrumentHandle>,
-    recorders: Vec<RecorderHandle>,
-    readers: Vec<ReaderHandle>,
+    instruments: Vec<Handle>,
+    recorders: Vec<Handle>,
+    readers: Vec<Handle>,
 }
 
 fn new_run(alloc: Global, plan: &Shared<Plan>, start: u64, run: u64) -> Result<NewRun, AllocError>
     requires { IsTrue plan.now.is_certified }
     ensures instruments { IfOk result (λ made.
-        AreNewInstruments plan.now start run (instruments_in made.instruments.items)) }
+        AreNewInstruments plan.now start run (held_in made.instruments.items)) }
     ensures recorders { IfOk result (λ made.
-        recorders_in made.recorders.items ≡ new_recorders plan.now run) }
+        held_in made.recorders.items ≡ new_recorders plan.now run) }
     ensures readers { IfOk result (λ made.
-        readers_in made.readers.items ≡ new_readers plan.now start run) }
+        held_in made.readers.items ≡ new_readers plan.now start run) }
 {
     let instruments = new_instruments(alloc, plan.get(), start, run)?;
     let recorders = new_recorders(alloc, plan, run)?;
@@ -256,27 +255,23 @@ fn new_instruments(
     plan: &Plan,
     start: u64,
     run: u64,
-) -> Result<Vec<InstrumentHandle>, AllocError>
+) -> Result<Vec<Handle>, AllocError>
     requires { IsTrue plan.now.is_certified }
     ensures { IfOk result (λ all.
-        AreNewInstruments plan.now start run (instruments_in all.items)) }
+        AreNewInstruments plan.now start run (held_in all.items)) }
 {
     let count = plan.catalogue().instruments().len() as u32;
     let mut all = Vec::new(alloc);
     for number in 0..count {
         let hosted = Hosted::new(alloc, plan, number, start, run)?;
-        let held = Box::new(alloc, hosted)?;
-        all.push(InstrumentHandle::of(held))?;
+        let held = Box::new(alloc, Held::Instrument(hosted))?;
+        all.push(Handle::of(held))?;
     }
     Ok(all)
 }
 
-fn new_recorders(
-    alloc: Global,
-    plan: &Shared<Plan>,
-    run: u64,
-) -> Result<Vec<RecorderHandle>, AllocError>
-    ensures { IfOk result (λ all. recorders_in all.items ≡ new_recorders plan.now run) }
+fn new_recorders(alloc: Global, plan: &Shared<Plan>, run: u64) -> Result<Vec<Handle>, AllocError>
+    ensures { IfOk result (λ all. held_in all.items ≡ new_recorders plan.now run) }
 {
     let instruments = plan.get().all_facts().len();
     let count = plan.get().catalogue().recorders().len() as u32;
@@ -284,8 +279,9 @@ fn new_recorders(
     for number in 0..count {
         let seat = RecorderSeat::new(alloc, run, number, instruments, false)?;
         let plan = plan.copy(alloc)?;
-        let held = Box::new(alloc, HostedRecorder { plan, seat })?;
-        all.push(RecorderHandle::of(held))?;
+        let own = HostedRecorder { plan, seat };
+        let held = Box::new(alloc, Held::Recorder(own))?;
+        all.push(Handle::of(held))?;
     }
     Ok(all)
 }
@@ -295,8 +291,8 @@ fn new_readers(
     plan: &Shared<Plan>,
     start: u64,
     run: u64,
-) -> Result<Vec<ReaderHandle>, AllocError>
-    ensures { IfOk result (λ all. readers_in all.items ≡ new_readers plan.now start run) }
+) -> Result<Vec<Handle>, AllocError>
+    ensures { IfOk result (λ all. held_in all.items ≡ new_readers plan.now start run) }
 {
     let instruments = plan.get().all_facts().len();
     let count = plan.get().config().readers().len() as u32;
@@ -305,8 +301,9 @@ fn new_readers(
         let seat = ReaderSeat::new(alloc, run, start, number, instruments)?;
         let plan = plan.copy(alloc)?;
         let last = None;
-        let held = Box::new(alloc, HostedReader { plan, seat, last })?;
-        all.push(ReaderHandle::of(held))?;
+        let own = HostedReader { plan, seat, last };
+        let held = Box::new(alloc, Held::Reader(own))?;
+        all.push(Handle::of(held))?;
     }
     Ok(all)
 }

@@ -1,14 +1,15 @@
 //! Batches in the encodings of OTLP.
 ghost use Rattle.std.specs.Prelude.{◌≡◌, ◌≢◌, ◌⊎◌, IfOk};
 ghost use Rattle.std.specs.Option.{MatchOption};
-ghost use Rattle.wormweekly_c.specs.Codes.{WhereHeld};
+ghost use Rattle.wormweekly_c.specs.Codes.{WhereHeld, reader_in};
 ghost use Rattle.wormweekly_c.specs.Otlp.{AnswersOtlp, encoded, line_of, request_of};
 ghost use Rattle.wormweekly_c.specs.Resources.{resource_from};
 ghost use Rattle.wormweekly_c.specs.Texts.{AnswersText};
 
 use crate::attributes::Attribute;
 use crate::codes::{MEMORY, NOT_OPEN, UNKNOWN};
-use crate::reader_handle::ReaderHandle;
+use crate::handles::Handle;
+use crate::held::Held;
 use crate::resources::{code_of, resource_from};
 use crate::texts::copy_text;
 use metric_hosted::HostedReader;
@@ -23,7 +24,7 @@ use std::alloc::{AllocError, Global};
 #[unsafe(no_mangle)]
 pub extern "C" fn wormweekly_otlp(
     alloc: Global,
-    reader: &mut ReaderHandle,
+    reader: &mut Handle,
     json: u32,
     texts: &[u8],
     given: &[Attribute],
@@ -31,17 +32,18 @@ pub extern "C" fn wormweekly_otlp(
     text_length: &mut usize,
 ) -> u32
     ensures answer { let read = resource_from given.now texts.now in
-        WhereHeld reader.old.value (result ≡ 100) (λ own.
+        WhereHeld (reader_in reader.old) (result ≡ 100) (λ own.
         AnswersOtlp own json read out.old out.new text_length.new result ⊎ (result ≡ 11)) }
     ensures reader { reader.new.value ≡ reader.old.value }
     ensures refused { result ≢ 0 → out.new ≡ out.old }
     ensures length { result ≢ 0 → result ≢ 102 → text_length.new ≡ text_length.old }
 {
-    let Some(own) = reader.take(alloc) else {
-        return NOT_OPEN;
+    let held = reader.take(alloc);
+    let code = match held.as_deref() {
+        Some(Held::Reader(own)) => write_given(alloc, own, json, texts, given, out, text_length),
+        _ => NOT_OPEN,
     };
-    let code = write_given(alloc, &own, json, texts, given, out, text_length);
-    reader.put(own);
+    reader.put(alloc, held);
     code
 }
 

@@ -2,7 +2,7 @@
 ghost use Rattle.std.specs.Prelude.{◌≡◌, ◌≢◌, ◌⊎◌, IfOk};
 ghost use Rattle.metric_base.specs.Steps.{GivesBy};
 ghost use Rattle.std.specs.Option.{MatchOption};
-ghost use Rattle.wormweekly_c.specs.Codes.{WhereHeld};
+ghost use Rattle.wormweekly_c.specs.Codes.{WhereHeld, reader_in};
 ghost use Rattle.wormweekly_c.specs.Pages.{AnswersLines, AnswersTarget, dialect_of, number_of_target, page_lines};
 ghost use Rattle.wormweekly_c.specs.Resources.{resource_from};
 ghost use Rattle.wormweekly_c.specs.Texts.{AnswersText};
@@ -11,7 +11,8 @@ ghost use Rattle.metric_exposition.specs.Targets.{target_text};
 
 use crate::attributes::Attribute;
 use crate::codes::{BAD_LABEL, LABEL_COLLISION, MEMORY, NOT_OPEN, UNKNOWN};
-use crate::reader_handle::ReaderHandle;
+use crate::handles::Handle;
+use crate::held::Held;
 use crate::resources::{code_of, resource_from};
 use crate::texts::copy_text;
 use metric_exposition::{Dialect, TargetFault, push_exposition, push_target};
@@ -26,23 +27,24 @@ use std::alloc::{AllocError, Global};
 #[unsafe(no_mangle)]
 pub extern "C" fn wormweekly_prometheus(
     alloc: Global,
-    reader: &mut ReaderHandle,
+    reader: &mut Handle,
     dialect: u32,
     out: &mut [u8],
     text_length: &mut usize,
 ) -> u32
-    ensures answer { WhereHeld reader.old.value (result ≡ 100) (λ own.
+    ensures answer { WhereHeld (reader_in reader.old) (result ≡ 100) (λ own.
         MatchOption (dialect_of dialect) (result ≡ 106) (λ d.
         AnswersText (page_lines own d) out.old out.new text_length.new result ⊎ (result ≡ 11))) }
     ensures reader { reader.new.value ≡ reader.old.value }
     ensures refused { result ≢ 0 → out.new ≡ out.old }
     ensures length { result ≢ 0 → result ≢ 102 → text_length.new ≡ text_length.old }
 {
-    let Some(own) = reader.take(alloc) else {
-        return NOT_OPEN;
+    let held = reader.take(alloc);
+    let code = match held.as_deref() {
+        Some(Held::Reader(own)) => write_lines(alloc, own, dialect, out, text_length),
+        _ => NOT_OPEN,
     };
-    let code = write_lines(alloc, &own, dialect, out, text_length);
-    reader.put(own);
+    reader.put(alloc, held);
     code
 }
 

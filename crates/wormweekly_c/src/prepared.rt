@@ -1,7 +1,7 @@
 //! Recordings of set keys that were prepared.
 ghost use Rattle.std.specs.Prelude.{◌≡◌, ◌≢◌, Some, length, map};
 ghost use Rattle.wormweekly_c.specs.Attributes.{attributes_from, looked_at};
-ghost use Rattle.wormweekly_c.specs.Codes.{Changes, IsCodeOf, WhereBoth, WhereHeld};
+ghost use Rattle.wormweekly_c.specs.Codes.{Changes, IsCodeOf, WhereBoth, WhereHeld, instrument_in, instrument_of, recorder_in, recorder_of};
 ghost use Rattle.wormweekly_c.specs.Prepared.{IsEncoded, IsPrepared, RecordsList};
 ghost use Rattle.wormweekly_c.specs.Recordings.{AnswersKey, RecordsKey};
 ghost use Rattle.metric_contents.specs.Attributes.{given_by};
@@ -9,9 +9,9 @@ ghost use Rattle.metric_contents.specs.Encoding.{encode_of};
 
 use crate::attributes::{Attribute, Unread, all_attributes, few_attributes, looked_at};
 use crate::codes::{DONE, MEMORY, NO_TEXT, NOT_OPEN};
+use crate::handles::Handle;
+use crate::held::Held;
 use crate::in_order::encoded_in_order;
-use crate::instrument_handle::InstrumentHandle;
-use crate::recorder_handle::RecorderHandle;
 use crate::recordings::record_key;
 use metric_contents::Attr;
 use metric_hosted::{Hosted, HostedRecorder, Measurement};
@@ -22,7 +22,7 @@ use std::alloc::Global;
 #[unsafe(no_mangle)]
 pub extern "C" fn wormweekly_prepare(
     alloc: Global,
-    recorder: &mut RecorderHandle,
+    recorder: &mut Handle,
     instrument: u32,
     texts: &[u8],
     given: &[Attribute],
@@ -30,17 +30,25 @@ pub extern "C" fn wormweekly_prepare(
 ) -> u32
     ensures answer { let given = looked_at given.now in
         let read = attributes_from given texts.now in
-        WhereHeld recorder.old.value (result ≡ 100) (λ own.
+        WhereHeld (recorder_in recorder.old) (result ≡ 100) (λ own.
         IsPrepared own.plan instrument (length given) read result prepared.new.set) }
     ensures refused { result ≢ 0 → prepared.new ≡ prepared.old }
     ensures value { prepared.new.value ≡ prepared.old.value }
     ensures recorder { recorder.new.value ≡ recorder.old.value }
 {
-    let Some(own) = recorder.take(alloc) else {
-        return NOT_OPEN;
+    let held = recorder.take(alloc);
+    let code = match held.as_deref() {
+        Some(Held::Recorder(own)) => prepare_given(
+            alloc,
+            own,
+            instrument,
+            texts,
+            looked_at(given),
+            prepared,
+        ),
+        _ => NOT_OPEN,
     };
-    let code = prepare_given(alloc, &own, instrument, texts, looked_at(given), prepared);
-    recorder.put(own);
+    recorder.put(alloc, held);
     code
 }
 
@@ -123,15 +131,16 @@ fn prepare_attributes(
 #[unsafe(no_mangle)]
 pub extern "C" fn wormweekly_record_prepared(
     alloc: Global,
-    instrument: &mut InstrumentHandle,
-    recorder: &mut RecorderHandle,
+    instrument: &mut Handle,
+    recorder: &mut Handle,
     prepared: &Measurement,
 ) -> u32
     ensures answer { let set = prepared.now.set in let value = prepared.now.value in
-        WhereBoth instrument.old.value recorder.old.value (result ≡ 100) (λ h own.
-        IsCodeOf (AnswersKey set value h own) result) }
-    ensures done { let held = instrument.new.value in let seat = recorder.new.value in
-        result ≡ 0 → Changes instrument.old.value held recorder.old.value seat
+        WhereBoth (instrument_in instrument.old) (recorder_in recorder.old)
+        (result ≡ 100) (λ h own. IsCodeOf (AnswersKey set value h own) result) }
+    ensures done { result ≡ 0
+        → Changes (instrument_in instrument.old) (instrument_in instrument.new)
+        (recorder_in recorder.old) (recorder_in recorder.new)
         (RecordsKey prepared.now.set prepared.now.value) }
     ensures instrument { result ≢ 0 → instrument.new.value ≡ instrument.old.value }
     ensures recorder { result ≢ 0 → recorder.new.value ≡ recorder.old.value }
@@ -140,57 +149,77 @@ pub extern "C" fn wormweekly_record_prepared(
         return NOT_OPEN;
     };
     let Some(mut own) = recorder.take(alloc) else {
-        instrument.put(held);
+        instrument.put(alloc, Some(held));
         return NOT_OPEN;
     };
     let code = record_one(&mut held, &mut own, prepared);
-    recorder.put(own);
-    instrument.put(held);
+    recorder.put(alloc, Some(own));
+    instrument.put(alloc, Some(held));
     code
 }
 
-fn record_one(held: &mut Hosted, own: &mut HostedRecorder, prepared: &Measurement) -> u32
+fn record_one(held: &mut Held, own: &mut Held, prepared: &Measurement) -> u32
     ensures answer { let set = prepared.now.set in let value = prepared.now.value in
-        IsCodeOf (AnswersKey set value held.old own.old) result }
-    ensures done { let set = prepared.now.set in let value = prepared.now.value in
-        result ≡ 0 → RecordsKey set value held.old held.new own.old own.new }
+        WhereBoth (instrument_of (Some held.old)) (recorder_of (Some own.old))
+        (result ≡ 100) (λ h own. IsCodeOf (AnswersKey set value h own) result) }
+    ensures done { result ≡ 0
+        → Changes (instrument_of (Some held.old)) (instrument_of (Some held.new))
+        (recorder_of (Some own.old)) (recorder_of (Some own.new))
+        (RecordsKey prepared.now.set prepared.now.value) }
     ensures instrument { result ≢ 0 → held.new ≡ held.old }
     ensures recorder { result ≢ 0 → own.new ≡ own.old }
 {
-    record_key(held, own, prepared.set, prepared.value)
+    match (held, own) {
+        (Held::Instrument(held), Held::Recorder(own)) => {
+            record_key(held, own, prepared.set, prepared.value)
+        }
+        _ => NOT_OPEN,
+    }
 }
 
 /// Makes the recordings of a list, one after the other, up to the first that is refused, and writes how many were made.
 #[unsafe(no_mangle)]
 pub extern "C" fn wormweekly_record_list(
     alloc: Global,
-    instrument: &mut InstrumentHandle,
-    recorder: &mut RecorderHandle,
+    instrument: &mut Handle,
+    recorder: &mut Handle,
     list: &[Measurement],
     made: &mut usize,
 ) -> u32
-    ensures { let count = made.new in
-        let held = instrument.new.value in let own = recorder.new.value in
-        WhereBoth instrument.old.value recorder.old.value
-        ((result ≡ 100) × (count ≡ 0) × (held ≡ instrument.old.value) × (own ≡ recorder.old.value))
-        (λ old before. Changes (Some old) held (Some before) own
-        (RecordsList list.now count result)) }
+    ensures { let held = instrument.new in let own = recorder.new in
+        WhereBoth (instrument_in instrument.old) (recorder_in recorder.old)
+        ((result ≡ 100) × (made.new ≡ 0)
+        × (held.value ≡ instrument.old.value) × (own.value ≡ recorder.old.value))
+        (λ old before. Changes (Some old) (instrument_in held) (Some before) (recorder_in own)
+        (RecordsList list.now made.new result)) }
 {
     *made = 0;
     let Some(mut held) = instrument.take(alloc) else {
         return NOT_OPEN;
     };
     let Some(mut own) = recorder.take(alloc) else {
-        instrument.put(held);
+        instrument.put(alloc, Some(held));
         return NOT_OPEN;
     };
     let code = record_all(&mut held, &mut own, list, made);
-    recorder.put(own);
-    instrument.put(held);
+    recorder.put(alloc, Some(own));
+    instrument.put(alloc, Some(held));
     code
 }
 
-fn record_all(
+fn record_all(held: &mut Held, own: &mut Held, list: &[Measurement], made: &mut usize) -> u32
+    ensures { WhereBoth (instrument_of (Some held.old)) (recorder_of (Some own.old))
+        ((result ≡ 100) × (made.new ≡ made.old) × (held.new ≡ held.old) × (own.new ≡ own.old))
+        (λ old before. Changes (Some old) (instrument_of (Some held.new))
+        (Some before) (recorder_of (Some own.new)) (RecordsList list.now made.new result)) }
+{
+    match (held, own) {
+        (Held::Instrument(held), Held::Recorder(own)) => record_known(held, own, list, made),
+        _ => NOT_OPEN,
+    }
+}
+
+fn record_known(
     held: &mut Hosted,
     own: &mut HostedRecorder,
     list: &[Measurement],

@@ -1,12 +1,13 @@
 //! The ranges of instruments.
 ghost use Rattle.std.specs.Prelude.{◌≡◌, ◌≢◌};
-ghost use Rattle.wormweekly_c.specs.Codes.{WhereHeld};
+ghost use Rattle.wormweekly_c.specs.Codes.{WhereHeld, recorder_in};
 ghost use Rattle.wormweekly_c.specs.Ranges.{range_at, range_of};
 ghost use Rattle.wormweekly_c.specs.Walking.{IsWritten};
 
 use crate::batches::write;
 use crate::codes::NOT_OPEN;
-use crate::recorder_handle::RecorderHandle;
+use crate::handles::Handle;
+use crate::held::Held;
 use metric_catalogue::Catalogue;
 use metric_contents::Instrument;
 use std::alloc::Global;
@@ -23,21 +24,25 @@ pub struct RangeOut {
 #[unsafe(no_mangle)]
 pub extern "C" fn wormweekly_range(
     alloc: Global,
-    recorder: &mut RecorderHandle,
+    recorder: &mut Handle,
     instrument: u32,
     out: &mut RangeOut,
 ) -> u32
-    ensures answer { WhereHeld recorder.old.value (result ≡ 100) (λ own.
+    ensures answer { WhereHeld (recorder_in recorder.old) (result ≡ 100) (λ own.
         IsWritten (range_at own.plan.facts.contents instrument) out.new result) }
     ensures recorder { recorder.new.value ≡ recorder.old.value }
     ensures refused { result ≢ 0 → out.new ≡ out.old }
 {
-    let Some(own) = recorder.take(alloc) else {
-        return NOT_OPEN;
+    let held = recorder.take(alloc);
+    let code = match held.as_deref() {
+        Some(Held::Recorder(own)) => write(
+            range_at(own.plan.get().catalogue(), instrument as usize),
+            out,
+        ),
+        _ => NOT_OPEN,
     };
-    let found = range_at(own.plan.get().catalogue(), instrument as usize);
-    recorder.put(own);
-    write(found, out)
+    recorder.put(alloc, held);
+    code
 }
 
 fn range_at(catalogue: &Catalogue, number: usize) -> Option<RangeOut>

@@ -1,15 +1,15 @@
 //! Recordings.
-ghost use Rattle.std.specs.Prelude.{◌≡◌, ◌≢◌, IsSomeAnd, length, map};
+ghost use Rattle.std.specs.Prelude.{◌≡◌, ◌≢◌, IsSomeAnd, length, map, Some};
 ghost use Rattle.wormweekly_c.specs.Attributes.{attributes_from, looked_at};
-ghost use Rattle.wormweekly_c.specs.Codes.{Changes, IsCodeOf, IsCodeOfRead, WhereBoth};
+ghost use Rattle.wormweekly_c.specs.Codes.{Changes, IsCodeOf, IsCodeOfRead, WhereBoth, instrument_in, instrument_of, recorder_in, recorder_of};
 ghost use Rattle.wormweekly_c.specs.Recordings.{AnswersGiven, AnswersKey, RecordsGiven, RecordsKey};
 ghost use Rattle.metric_contents.specs.Attributes.{given_by};
 
 use crate::attributes::{Attribute, Unread, all_attributes, few_attributes, looked_at};
 use crate::codes::{MEMORY, NO_TEXT, NOT_OPEN, code_of};
+use crate::handles::Handle;
+use crate::held::Held;
 use crate::in_order::encoded_in_order;
-use crate::instrument_handle::InstrumentHandle;
-use crate::recorder_handle::RecorderHandle;
 use metric_contents::{Attr, SetKey};
 use metric_facts::laws::attributes_name_allowed_sets;
 use metric_hosted::{Hosted, HostedRecorder};
@@ -20,19 +20,20 @@ use std::alloc::Global;
 #[unsafe(no_mangle)]
 pub extern "C" fn wormweekly_record(
     alloc: Global,
-    instrument: &mut InstrumentHandle,
-    recorder: &mut RecorderHandle,
+    instrument: &mut Handle,
+    recorder: &mut Handle,
     texts: &[u8],
     given: &[Attribute],
     value: i64,
 ) -> u32
     ensures answer { let given = looked_at given.now in
         let read = attributes_from given texts.now in
-        WhereBoth instrument.old.value recorder.old.value (result ≡ 100) (λ h own.
+        WhereBoth (instrument_in instrument.old) (recorder_in recorder.old) (result ≡ 100) (λ h own.
         IsCodeOfRead (length given) read (λ attrs. AnswersGiven attrs value h own) result) }
-    ensures done { let held = instrument.new.value in let seat = recorder.new.value in
-        result ≡ 0 → IsSomeAnd (attributes_from (looked_at given.now) texts.now) (λ attrs.
-        Changes instrument.old.value held recorder.old.value seat (RecordsGiven attrs value)) }
+    ensures done { let read = attributes_from (looked_at given.now) texts.now in
+        result ≡ 0 → IsSomeAnd read (λ attrs.
+        Changes (instrument_in instrument.old) (instrument_in instrument.new)
+        (recorder_in recorder.old) (recorder_in recorder.new) (RecordsGiven attrs value)) }
     ensures instrument { result ≢ 0 → instrument.new.value ≡ instrument.old.value }
     ensures recorder { result ≢ 0 → recorder.new.value ≡ recorder.old.value }
 {
@@ -40,13 +41,40 @@ pub extern "C" fn wormweekly_record(
         return NOT_OPEN;
     };
     let Some(mut own) = recorder.take(alloc) else {
-        instrument.put(held);
+        instrument.put(alloc, Some(held));
         return NOT_OPEN;
     };
-    let code = record_given(alloc, &mut held, &mut own, texts, looked_at(given), value);
-    recorder.put(own);
-    instrument.put(held);
+    let code = record_held(alloc, &mut held, &mut own, texts, looked_at(given), value);
+    recorder.put(alloc, Some(own));
+    instrument.put(alloc, Some(held));
     code
+}
+
+fn record_held(
+    alloc: Global,
+    held: &mut Held,
+    own: &mut Held,
+    texts: &[u8],
+    given: &[Attribute],
+    value: i64,
+) -> u32
+    ensures answer { let read = attributes_from given.now texts.now in
+        WhereBoth (instrument_of (Some held.old)) (recorder_of (Some own.old))
+        (result ≡ 100) (λ h own.
+        IsCodeOfRead (length given.now) read (λ attrs. AnswersGiven attrs value h own) result) }
+    ensures done { let read = attributes_from given.now texts.now in
+        result ≡ 0 → IsSomeAnd read (λ attrs.
+        Changes (instrument_of (Some held.old)) (instrument_of (Some held.new))
+        (recorder_of (Some own.old)) (recorder_of (Some own.new)) (RecordsGiven attrs value)) }
+    ensures instrument { result ≢ 0 → held.new ≡ held.old }
+    ensures recorder { result ≢ 0 → own.new ≡ own.old }
+{
+    match (held, own) {
+        (Held::Instrument(held), Held::Recorder(own)) => {
+            record_given(alloc, held, own, texts, given, value)
+        }
+        _ => NOT_OPEN,
+    }
 }
 
 // Finds the set key of the attributes, and makes the recording.

@@ -1,12 +1,13 @@
 //! The totals at the end.
-ghost use Rattle.std.specs.Prelude.{◌≡◌, ◌≢◌, ◌⊎◌, map, IfErr, IfOk, Ok};
-ghost use Rattle.wormweekly_c.specs.Codes.{WhereHeld};
-ghost use Rattle.wormweekly_c.specs.Settlements.{AllTold, AnswersSettle, AnswersTold, IsFirstUntold, TellsNot, number_of_fault, sum_from};
+ghost use Rattle.std.specs.Prelude.{◌≡◌, ◌≢◌, ◌⊎◌, IfErr, IfOk, Ok, Some};
+ghost use Rattle.wormweekly_c.specs.Codes.{WhereHeld, instrument_in, recorder_in};
+ghost use Rattle.wormweekly_c.specs.Settlements.{AllTold, AnswersSettle, AnswersTold, IsFirstUntold, TellsNot, number_of_fault, recorders_in, sum_from};
+ghost use Rattle.wormweekly_c.specs.Opening.{held_in};
 ghost use Rattle.metric_hosted.specs.Settlements.{TellsOf};
 
 use crate::codes::{AUDIT_MISMATCH, DONE, MEMORY, NOT_OPEN, RECORDER_MISSING, STRANGER};
-use crate::instrument_handle::InstrumentHandle;
-use crate::recorder_handle::RecorderHandle;
+use crate::handles::Handle;
+use crate::held::Held;
 use metric_hosted::{FinishFault, Hosted, HostedRecorder, SeatTold, Total};
 use std::alloc::Global;
 
@@ -27,37 +28,31 @@ pub struct TotalOut {
 #[unsafe(no_mangle)]
 pub extern "C" fn wormweekly_settle(
     alloc: Global,
-    instrument: &mut InstrumentHandle,
-    recorders: &mut [RecorderHandle],
+    instrument: &mut Handle,
+    recorders: &mut [Handle],
     total: &mut TotalOut,
 ) -> u32
-    ensures answer { let seats = map (λ handle. handle.value) recorders.old in
-        WhereHeld instrument.old.value (result ≡ 100) (λ h.
+    ensures answer { let seats = recorders_in recorders.old in
+        WhereHeld (instrument_in instrument.old) (result ≡ 100) (λ h.
         AnswersSettle h seats total.new result) }
     ensures refused { result ≢ 0 → total.new ≡ total.old }
     ensures instrument { instrument.new.value ≡ instrument.old.value }
-    ensures recorders { map (λ handle. handle.value) recorders.new
-        ≡ map (λ handle. handle.value) recorders.old }
+    ensures recorders { held_in recorders.new ≡ held_in recorders.old }
 {
-    let Some(held) = instrument.take(alloc) else {
-        return NOT_OPEN;
+    let held = instrument.take(alloc);
+    let code = match held.as_deref() {
+        Some(Held::Instrument(held)) => settle_one(alloc, held, recorders, total),
+        _ => NOT_OPEN,
     };
-    let code = settle_one(alloc, &held, recorders, total);
-    instrument.put(held);
+    instrument.put(alloc, held);
     code
 }
 
-fn settle_one(
-    alloc: Global,
-    held: &Hosted,
-    recorders: &mut [RecorderHandle],
-    total: &mut TotalOut,
-) -> u32
-    ensures answer { let seats = map (λ handle. handle.value) recorders.old in
+fn settle_one(alloc: Global, held: &Hosted, recorders: &mut [Handle], total: &mut TotalOut) -> u32
+    ensures answer { let seats = recorders_in recorders.old in
         AnswersSettle held.now seats total.new result }
     ensures refused { result ≢ 0 → total.new ≡ total.old }
-    ensures recorders { map (λ handle. handle.value) recorders.new
-        ≡ map (λ handle. handle.value) recorders.old }
+    ensures recorders { held_in recorders.new ≡ held_in recorders.old }
 {
     match all_told(alloc, held, recorders) {
         Err(code) => code,
@@ -106,17 +101,12 @@ fn code_of(fault: FinishFault) -> u32
 }
 
 // What the seats were told of the instrument.
-fn all_told(
-    alloc: Global,
-    held: &Hosted,
-    recorders: &mut [RecorderHandle],
-) -> Result<Vec<SeatTold>, u32>
-    ensures told { let seats = map (λ handle. handle.value) recorders.old in
+fn all_told(alloc: Global, held: &Hosted, recorders: &mut [Handle]) -> Result<Vec<SeatTold>, u32>
+    ensures told { let seats = recorders_in recorders.old in
         IfOk result (λ told. AllTold held.now seats told.items) }
-    ensures untold { let seats = map (λ handle. handle.value) recorders.old in
+    ensures untold { let seats = recorders_in recorders.old in
         IfErr result (λ code. IsFirstUntold held.now seats code ⊎ (code ≡ 11)) }
-    ensures recorders { map (λ handle. handle.value) recorders.new
-        ≡ map (λ handle. handle.value) recorders.old }
+    ensures recorders { held_in recorders.new ≡ held_in recorders.old }
 {
     let mut all = Vec::new(alloc);
     for handle in recorders.iter_mut() {
@@ -133,18 +123,27 @@ fn all_told(
 }
 
 // What a seat was told of the instrument.
-fn told_by(alloc: Global, held: &Hosted, recorder: &mut RecorderHandle) -> Result<SeatTold, u32>
-    ensures told { IfOk result (λ told.
-        WhereHeld recorder.old.value ⊥ (λ own. TellsOf own.plan held.now own.seat (Ok told))) }
-    ensures untold { IfErr result (TellsNot held.now recorder.old.value) }
+fn told_by(alloc: Global, held: &Hosted, recorder: &mut Handle) -> Result<SeatTold, u32>
+    ensures told { let seat = recorder_in recorder.old in
+        IfOk result (λ told.
+        WhereHeld seat ⊥ (λ own. TellsOf own.plan held.now own.seat (Ok told))) }
+    ensures untold { IfErr result (TellsNot held.now (recorder_in recorder.old)) }
     ensures recorder { recorder.new.value ≡ recorder.old.value }
 {
-    let Some(own) = recorder.take(alloc) else {
-        return Err(NOT_OPEN);
+    let own = recorder.take(alloc);
+    let told = match own.as_deref() {
+        Some(Held::Recorder(own)) => told_of(held, own),
+        _ => Err(NOT_OPEN),
     };
-    let told = held.told_of(own.plan.get(), &own.seat);
-    recorder.put(own);
-    match told {
+    recorder.put(alloc, own);
+    told
+}
+
+fn told_of(held: &Hosted, own: &HostedRecorder) -> Result<SeatTold, u32>
+    ensures told { IfOk result (λ told. TellsOf own.now.plan held.now own.now.seat (Ok told)) }
+    ensures untold { IfErr result (TellsNot held.now (Some own.now)) }
+{
+    match held.told_of(own.plan.get(), &own.seat) {
         Ok(told) => Ok(told),
         Err(fault) => Err(code_of(fault)),
     }

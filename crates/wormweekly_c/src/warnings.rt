@@ -1,13 +1,14 @@
 //! The warnings that a config gets.
 ghost use Rattle.std.specs.Prelude.{◌≡◌, ◌≢◌, ◌⊎◌, ◌++◌, IfOk, OnOk};
 ghost use Rattle.std.specs.List.{flat_map};
-ghost use Rattle.wormweekly_c.specs.Codes.{WhereHeld};
+ghost use Rattle.wormweekly_c.specs.Codes.{WhereHeld, recorder_in};
 ghost use Rattle.wormweekly_c.specs.Names.{warnings_text};
 ghost use Rattle.wormweekly_c.specs.Texts.{AnswersText};
 ghost use Rattle.metric_lines.specs.Streams.{warning_text};
 
 use crate::codes::{MEMORY, NOT_OPEN};
-use crate::recorder_handle::RecorderHandle;
+use crate::handles::Handle;
+use crate::held::Held;
 use crate::texts::copy_text;
 use metric_lines::push_warning;
 use metric_plan::Plan;
@@ -19,22 +20,23 @@ use std::alloc::{AllocError, Global};
 #[unsafe(no_mangle)]
 pub extern "C" fn wormweekly_warnings(
     alloc: Global,
-    recorder: &mut RecorderHandle,
+    recorder: &mut Handle,
     out: &mut [u8],
     text_length: &mut usize,
 ) -> u32
-    ensures answer { WhereHeld recorder.old.value (result ≡ 100) (λ own.
+    ensures answer { WhereHeld (recorder_in recorder.old) (result ≡ 100) (λ own.
         AnswersText (warnings_text own.plan) out.old out.new text_length.new result
         ⊎ (result ≡ 11)) }
     ensures recorder { recorder.new.value ≡ recorder.old.value }
     ensures refused { result ≢ 0 → out.new ≡ out.old }
     ensures length { result ≢ 0 → result ≢ 102 → text_length.new ≡ text_length.old }
 {
-    let Some(own) = recorder.take(alloc) else {
-        return NOT_OPEN;
+    let held = recorder.take(alloc);
+    let code = match held.as_deref() {
+        Some(Held::Recorder(own)) => write_warnings(alloc, own.plan.get(), out, text_length),
+        _ => NOT_OPEN,
     };
-    let code = write_warnings(alloc, own.plan.get(), out, text_length);
-    recorder.put(own);
+    recorder.put(alloc, held);
     code
 }
 

@@ -4,9 +4,10 @@ use Rattle.std.specs.List.{range_with_len}
 use Rattle.std.proofs.lemmas.List.{map-append}
 use Rattle.std.proofs.lemmas.List.FromFn.{map-range_with_len_more}
 use Rattle.metric_seat.specs.Seats.{new_recorder}
-use Rattle.metric_hosted.specs.declared.planned.HostedRecorder.{HostedRecorder}
-use Rattle.wormweekly_c.specs.declared.recorder_handle.RecorderHandle.{RecorderHandle}
-use Rattle.wormweekly_c.specs.Opening.{new_recorder_of, recorders_in}
+use Rattle.wormweekly_c.specs.declared.handles.Handle.{Handle}
+use Rattle.wormweekly_c.specs.declared.held.Held.{Held}
+use Rattle.wormweekly_c.specs.declared.held.Held.TheVariants.{Recorder}
+use Rattle.wormweekly_c.specs.Opening.{new_recorder_of, held_in}
 use Rattle.wormweekly_c.proofs.opening.new_recorders.Goals as goal
 
 pub loop-number-preserved : goal.loop-number-preserved
@@ -17,11 +18,11 @@ loop-number-preserved c =
     let so_far = map (new_recorder_of plan run) (range_with_len 0 number) in
     let seat : c.in_ok-seat.seat ≡ new_recorder false run (length plan.facts.instruments) number = search rules in
     let copied : c.in_ok-plan.plan ≡ plan = search rules in
-    let made : c.in_ok-held.held.value ≡ record { plan = c.in_ok-plan.plan; seat = c.in_ok-seat.seat } = search rules in
+    let made : c.in_ok-held.held.value ≡ Recorder (record { plan = c.in_ok-plan.plan; seat = c.in_ok-seat.seat }) = search rules in
     let value : c.of.result.value ≡ new_recorder_of plan run number =
-    c.of.ensures ∙ ap (λ (own : HostedRecorder). Some own) (made ∙ (λ i. record { plan = copied i; seat = seat i })) in
-    ap recorders_in c.in_ok-push.ensures.items
-    ∙ map-append (λ (handle : RecorderHandle). handle.value) c.loop-number.all.items (c.of.result ∷ [])
-    ∙ ap (λ (all : List (Option HostedRecorder)). all ++ c.of.result.value ∷ []) c.loop-number.invariant
-    ∙ ap (λ (own : Option HostedRecorder). so_far ++ own ∷ []) value
+    c.of.ensures ∙ ap (λ (own : Held). Some own) (made ∙ (λ i. Recorder (record { plan = copied i; seat = seat i }))) in
+    ap held_in c.in_ok-push.ensures.items
+    ∙ map-append (λ (handle : Handle). handle.value) c.loop-number.all.items (c.of.result ∷ [])
+    ∙ ap (λ (all : List (Option Held)). all ++ c.of.result.value ∷ []) c.loop-number.invariant
+    ∙ ap (λ (own : Option Held). so_far ++ own ∷ []) value
     ∙ sym (map-range_with_len_more (new_recorder_of plan run) 0 number number (omega arith))

@@ -2,13 +2,10 @@
 use Rattle.std.proofs.Common.{◌≡◌, ◌++◌, List, Option, drop, length, sym, ap, subst, ◌∙◌, arith}
 use Rattle.std.proofs.lemmas.List.{length-map}
 use Rattle.std.proofs.lemmas.List.FromFn.{length-map-range_with_len}
-use Rattle.metric_hosted.specs.declared.planned.HostedReader.{HostedReader}
-use Rattle.metric_hosted.specs.declared.planned.HostedRecorder.{HostedRecorder}
-use Rattle.wormweekly_c.specs.declared.instrument_handle.InstrumentHandle.{InstrumentHandle}
+use Rattle.wormweekly_c.specs.declared.handles.Handle.{Handle}
+use Rattle.wormweekly_c.specs.declared.held.Held.{Held}
 use Rattle.wormweekly_c.specs.declared.opening.Counts.{Counts}
-use Rattle.wormweekly_c.specs.declared.reader_handle.ReaderHandle.{ReaderHandle}
-use Rattle.wormweekly_c.specs.declared.recorder_handle.RecorderHandle.{RecorderHandle}
-use Rattle.wormweekly_c.specs.Opening.{instruments_in, new_reader_of, new_recorder_of, readers_in, recorders_in}
+use Rattle.wormweekly_c.specs.Opening.{held_in, new_reader_of, new_recorder_of}
 use Rattle.metric_plan.specs.Plans.{PlanValue}
 use Rattle.wormweekly_c.proofs.HeldLaws.{first_held}
 use Rattle.wormweekly_c.proofs.RoomLaws.{has_room}
@@ -18,7 +15,7 @@ pub place-requires : goal.place-requires
 place-requires c =
     let all = c.in-Ok.made.instruments.items in
     let long : length all ≡ length c.args.plan.now.facts.contents.instruments =
-    sym (length-map all (λ (handle : InstrumentHandle). handle.value)) ∙ c.in-Ok.ensures.instruments.count in
+    sym (length-map all (λ (handle : Handle). handle.value)) ∙ c.in-Ok.ensures.instruments.count in
     omega (arith, long, (has_room c.counts_of.result _ _ _ (sym c.lacks_handles.ensures ∙ c.if-lacks_handles.false)).0, ap (λ (counts : Counts). counts.instruments) c.counts_of.ensures, ap (λ (p : PlanValue). length p.facts.contents.instruments) c.get.ensures)
 
 pub place-requires-in-Ok : goal.place-requires-in-Ok
@@ -26,7 +23,7 @@ place-requires-in-Ok c =
     let all = c.in-Ok.made.recorders.items in
     let count = length c.args.plan.now.facts.contents.recorders in
     let long : length all ≡ count =
-    sym (length-map all (λ (handle : RecorderHandle). handle.value))
+    sym (length-map all (λ (handle : Handle). handle.value))
     ∙ ap length c.in-Ok.ensures.recorders
     ∙ length-map-range_with_len (new_recorder_of c.args.plan.now c.args.run) 0 count in
     omega (arith, long, (has_room c.counts_of.result _ _ _ (sym c.lacks_handles.ensures ∙ c.if-lacks_handles.false)).1, ap (λ (counts : Counts). counts.recorders) c.counts_of.ensures, ap (λ (p : PlanValue). length p.facts.contents.recorders) c.get.ensures)
@@ -36,18 +33,18 @@ place-requires-in-Ok-2 c =
     let all = c.in-Ok.made.readers.items in
     let count = length c.args.plan.now.config.readers in
     let long : length all ≡ count =
-    sym (length-map all (λ (handle : ReaderHandle). handle.value))
+    sym (length-map all (λ (handle : Handle). handle.value))
     ∙ ap length c.in-Ok.ensures.readers
     ∙ length-map-range_with_len (new_reader_of c.args.plan.now c.args.start c.args.run) 0 count in
     omega (arith, long, (has_room c.counts_of.result _ _ _ (sym c.lacks_handles.ensures ∙ c.if-lacks_handles.false)).2, ap (λ (counts : Counts). counts.readers) c.counts_of.ensures, ap (λ (p : PlanValue). length p.config.readers) c.get.ensures)
 
 pub returns-in-Ok-clause-opened : goal.returns-in-Ok-clause-opened
 returns-in-Ok-clause-opened c = λ done. record {
-  made = instruments_in c.in-Ok.made.instruments.items;
+  made = held_in c.in-Ok.made.instruments.items;
   new = c.in-Ok.ensures.instruments;
-  instruments = first_held (λ (handle : InstrumentHandle). handle.value) c.in-Ok.made.instruments.items c.args.instruments.now c.place.new.places c.place.ensures;
-  recorders = subst (λ (made : List (Option HostedRecorder)). recorders_in c.place-in-Ok.new.places ≡ made ++ drop (length made) (recorders_in c.args.recorders.now)) c.in-Ok.ensures.recorders
-      (first_held (λ (handle : RecorderHandle). handle.value) c.in-Ok.made.recorders.items c.args.recorders.now c.place-in-Ok.new.places c.place-in-Ok.ensures);
-  readers = subst (λ (made : List (Option HostedReader)). readers_in c.place-in-Ok-2.new.places ≡ made ++ drop (length made) (readers_in c.args.readers.now)) c.in-Ok.ensures.readers
-      (first_held (λ (handle : ReaderHandle). handle.value) c.in-Ok.made.readers.items c.args.readers.now c.place-in-Ok-2.new.places c.place-in-Ok-2.ensures);
+  instruments = first_held (λ (handle : Handle). handle.value) c.in-Ok.made.instruments.items c.args.instruments.now c.place.new.places c.place.ensures;
+  recorders = subst (λ (made : List (Option Held)). held_in c.place-in-Ok.new.places ≡ made ++ drop (length made) (held_in c.args.recorders.now)) c.in-Ok.ensures.recorders
+      (first_held (λ (handle : Handle). handle.value) c.in-Ok.made.recorders.items c.args.recorders.now c.place-in-Ok.new.places c.place-in-Ok.ensures);
+  readers = subst (λ (made : List (Option Held)). held_in c.place-in-Ok-2.new.places ≡ made ++ drop (length made) (held_in c.args.readers.now)) c.in-Ok.ensures.readers
+      (first_held (λ (handle : Handle). handle.value) c.in-Ok.made.readers.items c.args.readers.now c.place-in-Ok-2.new.places c.place-in-Ok-2.ensures);
 }

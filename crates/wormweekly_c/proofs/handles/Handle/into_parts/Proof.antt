@@ -36,11 +36,11 @@ use Rattle.std.proofs.ResultValues.{and_tt}
 use Rattle.std.proofs.option.Made.{Some-of, none_of}
 use Rattle.std.proofs.alloc.Shapes.{after}
 use Rattle.std.specs.contracts.option.Option as OP
-use Rattle.wormweekly_c.proofs.InstrumentHandles.{E, FromHandle as From, PartsRow, both, either_held}
-use Rattle.wormweekly_c.specs.contracts.instrument_handle.InstrumentHandle.into_parts as F
-use Rattle.wormweekly_c.specs.contracts.instrument_handle.InstrumentHandle.into_parts.Key.{name as #self}
-use Rattle.wormweekly_c.proofs.instrument_handle.InstrumentHandle.into_parts.Statement as stated
-use Rattle.wormweekly_c.proofs.instrument_handle.InstrumentHandle.into_parts.Code as code
+use Rattle.wormweekly_c.proofs.HandleOwnership.{E, FromHandle as From, PartsRow, both, either_held}
+use Rattle.wormweekly_c.specs.contracts.handles.Handle.into_parts as F
+use Rattle.wormweekly_c.specs.contracts.handles.Handle.into_parts.Key.{name as #self}
+use Rattle.wormweekly_c.proofs.handles.Handle.into_parts.Statement as stated
+use Rattle.wormweekly_c.proofs.handles.Handle.into_parts.Code as code
 
 abbrev stayed : Stays (F.ended).signature.params (F.ended).kept
 stayed = (stay_dropped From yes, tt)

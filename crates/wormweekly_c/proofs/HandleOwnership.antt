@@ -21,11 +21,11 @@ use Rattle.std.specs.declared.option.Option.TheVariants.{None, Some}
 use Rattle.std.specs.contracts.alloc.Global as heap
 use Rattle.std.proofs.alloc.Global.TheLaws as heap_laws
 use Rattle.std.specs.contracts.impls.GlobalAllocator.TheImpl.{ghosts, dict}
-use Rattle.metric_hosted.specs.contracts.planned.HostedRecorder as Hosted
-use Rattle.metric_hosted.proofs.planned.HostedRecorder.TheLaws as hosted
-use Rattle.wormweekly_c.specs.HeldRecorder.{held}
+use Rattle.wormweekly_c.specs.contracts.held.Held as Hosted
+use Rattle.wormweekly_c.proofs.held.Held.TheLaws as hosted
+use Rattle.wormweekly_c.specs.Held.{held}
 use Rattle.wormweekly_c.specs.contracts.parts.Parts as Parts
-use Rattle.wormweekly_c.specs.contracts.recorder_handle.RecorderHandle as Handle
+use Rattle.wormweekly_c.specs.contracts.handles.Handle as Handle
 
 -- a box of a hosted instrument
 abbrev pub E : Bx

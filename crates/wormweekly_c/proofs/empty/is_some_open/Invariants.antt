@@ -2,11 +2,11 @@
 use Rattle.std.proofs.Common.{◌≡◌, take}
 use Rattle.std.specs.List.{list_any}
 use Rattle.std.specs.Option.{is_some}
-use Rattle.wormweekly_c.specs.Opening.{instruments_in}
-use Rattle.wormweekly_c.proofs.empty.has_instrument.Given as goal
+use Rattle.wormweekly_c.specs.Opening.{held_in}
+use Rattle.wormweekly_c.proofs.empty.is_some_open.Given as goal
 
 abbrev pub invariant-loop-handle : goal.invariant-loop-handle
 invariant-loop-handle l = record {
-  kept : instruments_in l.handles ≡ instruments_in l.fn.handles;
-  found : l.found ≡ list_any is_some (take l.handle-index (instruments_in l.fn.handles));
+  kept : held_in l.handles ≡ held_in l.fn.handles;
+  found : l.found ≡ list_any is_some (take l.handle-index (held_in l.fn.handles));
 }

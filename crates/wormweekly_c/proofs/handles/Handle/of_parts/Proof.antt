@@ -26,11 +26,11 @@ use denote.Triple.Walked.{says, Stays, stay_dropped, walk_of, ends_at, Goes-drop
 use Rattle.std.proofs.BoxSteps.Form.{D, B, word, box_typed}
 use Rattle.std.proofs.BoxSteps.Steps.{box_out, box_in}
 use Rattle.std.specs.declared.option.Option.TheVariants.{Some}
-use Rattle.wormweekly_c.proofs.RecorderHandles.{E, FromParts as From}
-use Rattle.wormweekly_c.specs.contracts.recorder_handle.RecorderHandle.of_parts as F
-use Rattle.wormweekly_c.specs.contracts.recorder_handle.RecorderHandle.of_parts.Key.{name as #self}
-use Rattle.wormweekly_c.proofs.recorder_handle.RecorderHandle.of_parts.Statement as stated
-use Rattle.wormweekly_c.proofs.recorder_handle.RecorderHandle.of_parts.Code as code
+use Rattle.wormweekly_c.proofs.HandleOwnership.{E, FromParts as From}
+use Rattle.wormweekly_c.specs.contracts.handles.Handle.of_parts as F
+use Rattle.wormweekly_c.specs.contracts.handles.Handle.of_parts.Key.{name as #self}
+use Rattle.wormweekly_c.proofs.handles.Handle.of_parts.Statement as stated
+use Rattle.wormweekly_c.proofs.handles.Handle.of_parts.Code as code
 
 abbrev stayed : Stays (F.ended).signature.params (F.ended).kept
 stayed = (stay_dropped From yes, tt)

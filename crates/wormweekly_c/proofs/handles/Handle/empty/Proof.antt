@@ -31,12 +31,12 @@ use Rattle.std.specs.declared.option.Option.TheVariants.{None}
 use Rattle.std.proofs.ResultValues.{and_tt}
 use denote.Signature.{Slot, plain}
 use Rattle.std.specs.contracts.alloc.Global as heap
-use Rattle.wormweekly_c.proofs.ReaderHandles.{E, both}
-use Rattle.wormweekly_c.specs.contracts.reader_handle.ReaderHandle as Handle
-use Rattle.wormweekly_c.specs.contracts.reader_handle.ReaderHandle.empty as F
-use Rattle.wormweekly_c.specs.contracts.reader_handle.ReaderHandle.empty.Key.{name as #self}
-use Rattle.wormweekly_c.proofs.reader_handle.ReaderHandle.empty.Statement as stated
-use Rattle.wormweekly_c.proofs.reader_handle.ReaderHandle.empty.Code as code
+use Rattle.wormweekly_c.proofs.HandleOwnership.{E, both}
+use Rattle.wormweekly_c.specs.contracts.handles.Handle as Handle
+use Rattle.wormweekly_c.specs.contracts.handles.Handle.empty as F
+use Rattle.wormweekly_c.specs.contracts.handles.Handle.empty.Key.{name as #self}
+use Rattle.wormweekly_c.proofs.handles.Handle.empty.Statement as stated
+use Rattle.wormweekly_c.proofs.handles.Handle.empty.Code as code
 
 abbrev From : Slot 0
 From = plain (λ _. heap.the_row)

@@ -13,10 +13,10 @@ use Rattle.std.proofs.alloc.Global.TheSendSync as alloc
 use Rattle.std.specs.Global.{Global}
 use Rattle.std.specs.declared.option.Option.{Option}
 use Rattle.std.specs.declared.option.Option.TheVariants.{None, Some}
-use Rattle.metric_hosted.specs.contracts.instrument.Hosted.{the_row as R}
-use Rattle.metric_hosted.proofs.instrument.Hosted.TheSendSync.{the_send}
-use Rattle.wormweekly_c.specs.HeldInstrument.{held}
-use Rattle.wormweekly_c.specs.contracts.instrument_handle.InstrumentHandle.{the_row, the_type}
+use Rattle.wormweekly_c.specs.contracts.held.Held.{the_row as R}
+use Rattle.wormweekly_c.proofs.held.Held.TheSendSync.{the_send}
+use Rattle.wormweekly_c.specs.Held.{held}
+use Rattle.wormweekly_c.specs.contracts.handles.Handle.{the_row, the_type}
 
 quiet : {D X : Type 0} (to : D → X) (e : Exit X) → Quiet e → Quiet (hidden (under to e))
 quiet to unchanged q = λ x w. tt
