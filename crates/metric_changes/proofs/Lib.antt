@@ -1,3 +1,4 @@
+mod Equals
 mod Got
 mod Lists
 mod Told

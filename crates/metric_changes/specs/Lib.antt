@@ -1,4 +1,8 @@
 pub mod Known
 pub mod Parts
+pub mod Combined
+pub mod Instruments
+pub mod Placed
 pub mod Changes
+pub mod Equal
 pub mod Breaking

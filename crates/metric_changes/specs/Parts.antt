@@ -2,9 +2,10 @@
 use Rattle.std.specs.Prelude.{ℕ, Bool, true, false, not, ◌==◌, ◌&&◌, List, [], ◌∷◌, ◌++◌, Option, Some}
 use Rattle.std.specs.Prelude.{None, slice_get, slice_index_or, if◌then◌else◌}
 use Rattle.std.specs.Cmp.Lexicographic.{pointwise}
-use Rattle.std.specs.List.{enumerate_from, flat_map, list_any}
+use Rattle.std.specs.List.{enumerate_from, flat_map, list_all, list_any}
 use Rattle.std.specs.Ordering.{int_eq}
 use Rattle.std.specs.Str.{bytes_eq}
+use Rattle.metric_names.specs.Names.{folded}
 use Rattle.metric_contents.specs.declared.contents.Contents.{Contents}
 use Rattle.metric_contents.specs.declared.contents.Instrument.{Instrument}
 use Rattle.metric_contents.specs.declared.contents.Key.{Key}
@@ -40,33 +41,59 @@ has_other_boundaries (aggregations.Histogram boundaries) (aggregations.Histogram
     not (pointwise int_eq boundaries others)
 has_other_boundaries one other = false
 
+-- both are histograms, and each boundary of the first is one of the second
+abbrev pub keeps_boundaries : StreamAggregation → StreamAggregation → Bool
+keeps_boundaries (aggregations.Histogram boundaries) (aggregations.Histogram others) =
+    list_all (λ boundary. list_any (int_eq boundary) others) boundaries
+keeps_boundaries one other = false
+
 abbrev pub is_same_temporality : Temporality → Temporality → Bool
 is_same_temporality Delta Delta = true
 is_same_temporality Cumulative Cumulative = true
 is_same_temporality one other = false
 
--- two streams differ in a part
-abbrev pub differs : StreamPart → Stream → Stream → Bool
-differs parts.Name old new = not (bytes_eq old.name new.name)
-differs parts.Description old new = not (bytes_eq old.description new.description)
-differs parts.Unit old new = not (bytes_eq old.unit new.unit)
-differs parts.Kind old new = not (is_kind old.kind new.kind)
-differs parts.Aggregation old new = not (is_alike old.aggregation new.aggregation)
-differs parts.Boundaries old new = has_other_boundaries old.aggregation new.aggregation
-differs parts.Limit old new = not (old.limit == new.limit)
-differs parts.Temporality old new = not (is_same_temporality old.temporality new.temporality)
+abbrev pub name_with : Option Instrument → List ℕ
+name_with None = []
+name_with (Some instrument) = instrument.name
+
+-- the name of a stream's instrument; its meter is in what the stream is known by
+abbrev pub source_name : Contents → Stream → List ℕ
+source_name contents stream = name_with (slice_get contents.instruments stream.instrument)
+
+-- streams of two catalogues differ in a part
+abbrev pub differs : StreamPart → Contents → Contents → Stream → Stream → Bool
+differs parts.Name contents others old new = not (bytes_eq old.name new.name)
+differs parts.Description contents others old new = not (bytes_eq old.description new.description)
+differs parts.Unit contents others old new = not (bytes_eq old.unit new.unit)
+differs parts.Kind contents others old new = not (is_kind old.kind new.kind)
+differs parts.Aggregation contents others old new = not (is_alike old.aggregation new.aggregation)
+differs parts.Boundaries contents others old new =
+    has_other_boundaries old.aggregation new.aggregation
+    && not (keeps_boundaries old.aggregation new.aggregation)
+differs parts.MoreBoundaries contents others old new =
+    has_other_boundaries old.aggregation new.aggregation
+    && keeps_boundaries old.aggregation new.aggregation
+differs parts.Limit contents others old new = not (old.limit == new.limit)
+differs parts.Temporality contents others old new =
+    not (is_same_temporality old.temporality new.temporality)
+differs parts.Instrument contents others old new =
+    not (bytes_eq (folded (source_name contents old)) (folded (source_name others new)))
 
 abbrev pub all_parts : List StreamPart
 all_parts =
     parts.Name ∷ parts.Description ∷ parts.Unit ∷ parts.Kind ∷ parts.Aggregation
-    ∷ parts.Boundaries ∷ parts.Limit ∷ parts.Temporality ∷ []
+    ∷ parts.Boundaries ∷ parts.MoreBoundaries ∷ parts.Limit ∷ parts.Temporality
+    ∷ parts.Instrument ∷ []
 
 -- that two streams of these numbers differ in a part, where they do
-abbrev pub part_change : ℕ → ℕ → Stream → Stream → StreamPart → List Change
-part_change old new s t part = when (differs part s t) (changes.StreamChanged old new part)
+abbrev pub part_change : ℕ → ℕ → Contents → Contents → Stream → Stream → StreamPart → List Change
+part_change old new contents others s t part =
+    when (differs part contents others s t) (changes.StreamChanged old new part)
 
-abbrev pub part_changes : ℕ → ℕ → Stream → Stream → List StreamPart → List Change
-part_changes old new s t these = flat_map (part_change old new s t) these
+abbrev pub part_changes : ℕ → ℕ → Contents → Contents → Stream → Stream → List StreamPart
+    → List Change
+part_changes old new contents others s t these =
+    flat_map (part_change old new contents others s t) these
 
 abbrev pub keys_with : Option Instrument → List Key
 keys_with None = []
@@ -107,6 +134,6 @@ key_changes old new keys others s t =
 abbrev pub differences_with : Contents → Contents → ℕ → ℕ → Option Stream → Option Stream
     → List Change
 differences_with contents others old new (Some s) (Some t) =
-    part_changes old new s t all_parts
+    part_changes old new contents others s t all_parts
     ++ key_changes old new (keys_of contents s) (keys_of others t) s t
 differences_with contents others old new s t = []

@@ -1,16 +1,18 @@
-//! What the budgets of an old instrument differ in.
+//! What an old instrument differs in.
 ghost use Rattle.std.specs.Prelude.{◌≡◌, ◌++◌, OnOk, Some, slice_get};
-ghost use Rattle.metric_changes.specs.Changes.{instrument_change, plan_of, room_changes};
+ghost use Rattle.metric_changes.specs.Changes.{instrument_change, instrument_differences, plan_of, room_changes};
 
 use crate::change::Change;
+use crate::declared::add_declared;
 use crate::parts::{Numbers, add_when};
 use crate::side::Side;
 use metric_advice::Headroom;
 use metric_base::Items;
-use std::alloc::AllocError;
+use std::alloc::{AllocError, Global};
 
-/// Puts last that the old instrument of a number goes, or in what its budgets differ from those of the new one.
+/// Puts last that the old instrument of a number goes, or in what it differs from the new one.
 pub(crate) fn add_instrument_change(
+    alloc: Global,
     changes: &mut Items<Change>,
     old: Side<'_>,
     new: Side<'_>,
@@ -21,12 +23,27 @@ pub(crate) fn add_instrument_change(
         (plan_of new.entry) number found) }
 {
     match found {
-        Some(other) => add_rooms(changes, old.rooms, new.rooms, number, other),
+        Some(other) => add_differences(alloc, changes, old, new, number, other),
         None => {
             changes.push(Change::InstrumentGone { old: number })?;
             Ok(())
         }
     }
+}
+
+fn add_differences(
+    alloc: Global,
+    changes: &mut Items<Change>,
+    old: Side<'_>,
+    new: Side<'_>,
+    number: usize,
+    other: usize,
+) -> Result<(), AllocError>
+    ensures { OnOk result (changes.new ≡ changes.old ++ instrument_differences (plan_of old.entry)
+        (plan_of new.entry) number other) }
+{
+    add_declared(alloc, changes, old.catalogue, new.catalogue, number, other)?;
+    add_rooms(changes, old.rooms, new.rooms, number, other)
 }
 
 fn add_rooms(
@@ -62,8 +79,6 @@ fn add_room(
         ++ room_changes of.old of.new (Some one.now) (Some another.now)) }
 {
     let Numbers { old, new } = of;
-    let has_other = one.total != another.total;
-    add_when(changes, has_other, Change::BudgetChanged { old, new })?;
     let has_other = one.most != another.most;
     add_when(changes, has_other, Change::HeadroomChanged { old, new })
 }

@@ -4,8 +4,13 @@
 //! `specs/Known.antt` says what a stream is known by in both, and `specs/Changes.antt` what the changes are.
 #![tactic(auto)]
 
+mod attributes;
+mod budgets;
 mod change;
+mod combinations;
 mod compared;
+mod declared;
+mod each;
 mod instruments;
 mod keys;
 mod named;
@@ -16,6 +21,6 @@ mod places;
 mod side;
 mod streams;
 
-pub use change::{Change, StreamPart};
+pub use change::{Change, InstrumentPart, StreamPart};
 pub use compared::changes;
 pub use side::Side;

@@ -2,7 +2,7 @@
 ghost use Rattle.std.specs.Prelude.{◌≡◌, ◌++◌, OnOk};
 ghost use Rattle.std.specs.BTreeMap.{get_by_text};
 ghost use Rattle.std.specs.List.{enumerate_from, flat_map};
-ghost use Rattle.metric_changes.specs.Changes.{change, change_by, coming, new_by, plan_of, sort_changes};
+ghost use Rattle.metric_changes.specs.Changes.{change, change_by, coming, new_by, plan_of, recorder_change, sort_changes};
 
 use crate::change::Change;
 use crate::instruments::add_instrument_change;
@@ -19,6 +19,7 @@ use std::alloc::{AllocError, Global};
 pub(crate) enum Sort {
     Streams,
     Instruments,
+    Recorders,
 }
 
 /// Puts the changes of a sort last: those that go or differ, in the order of the old ones, and then those that are new.
@@ -36,12 +37,21 @@ pub(crate) fn add_sort(
     let new_names = names(alloc, sort, old, new)?;
     let old_places = places_of(alloc, old_names.as_slice())?;
     let new_places = places_of(alloc, new_names.as_slice())?;
-    add_old(changes, sort, old, new, old_names.as_slice(), &new_places)?;
+    add_old(
+        alloc,
+        changes,
+        sort,
+        old,
+        new,
+        old_names.as_slice(),
+        &new_places,
+    )?;
     add_new(changes, sort, new_names.as_slice(), &old_places)
 }
 
 // Puts the changes of the old ones of these names last.
 fn add_old(
+    alloc: Global,
     changes: &mut Items<Change>,
     sort: Sort,
     old: Side<'_>,
@@ -55,13 +65,14 @@ fn add_old(
 {
     for (number, name) in names.iter().enumerate() {
         let found = place_in(places, name.as_str());
-        add_change(changes, sort, old, new, number, found)?;
+        add_change(alloc, changes, sort, old, new, number, found)?;
     }
     Ok(())
 }
 
 // Puts the change of the old one of a number last.
 fn add_change(
+    alloc: Global,
     changes: &mut Items<Change>,
     sort: Sort,
     old: Side<'_>,
@@ -74,7 +85,25 @@ fn add_change(
 {
     match sort {
         Sort::Streams => add_stream_change(changes, old, new, number, found),
-        Sort::Instruments => add_instrument_change(changes, old, new, number, found),
+        Sort::Instruments => add_instrument_change(alloc, changes, old, new, number, found),
+        Sort::Recorders => add_recorder_change(changes, number, found),
+    }
+}
+
+// Puts last that the old recorder of a number goes, where no new one is found.
+fn add_recorder_change(
+    changes: &mut Items<Change>,
+    number: usize,
+    found: Option<usize>,
+) -> Result<(), AllocError>
+    ensures { OnOk result (changes.new ≡ changes.old ++ recorder_change number found) }
+{
+    match found {
+        Some(_) => Ok(()),
+        None => {
+            changes.push(Change::RecorderGone { old: number })?;
+            Ok(())
+        }
     }
 }
 
@@ -101,5 +130,6 @@ fn coming(sort: Sort, new: usize) -> Change
     match sort {
         Sort::Streams => Change::StreamNew { new },
         Sort::Instruments => Change::InstrumentNew { new },
+        Sort::Recorders => Change::RecorderNew { new },
     }
 }

@@ -6,9 +6,9 @@ ghost use Rattle.metric_changes.specs.Known.{instrument_name, known_text, meter_
 use crate::named::Sort;
 use crate::numbers::numbers;
 use crate::side::Side;
-use metric_base::{Items, Text};
+use metric_base::{Copied, Items, Text};
 use metric_catalogue::Catalogue;
-use metric_contents::Instrument;
+use metric_contents::{Instrument, Recorder};
 use metric_names::Name;
 use metric_views::Stream;
 use std::alloc::{AllocError, Global};
@@ -25,6 +25,7 @@ pub(crate) fn names(
     match sort {
         Sort::Streams => stream_names(alloc, old, side),
         Sort::Instruments => instrument_names(alloc, old, side),
+        Sort::Recorders => recorder_names(alloc, side.catalogue.recorders()),
     }
 }
 
@@ -139,4 +140,14 @@ fn instrument_name(
 {
     let meter = at_or_zero(meters, instrument.meter);
     known_text(alloc, 0, meter, instrument.name.get())
+}
+
+fn recorder_names(alloc: Global, recorders: &[Recorder]) -> Result<Items<Text>, AllocError>
+    ensures { IfOk result (λ names. names ≡ map (λ recorder. recorder.name) recorders.now) }
+{
+    let mut names = Items::new(alloc);
+    for recorder in recorders {
+        names.push(recorder.name.copy(alloc)?)?;
+    }
+    Ok(names)
 }

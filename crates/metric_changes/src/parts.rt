@@ -1,12 +1,15 @@
 //! In which parts two streams differ.
 ghost use Rattle.std.specs.Prelude.{◌≡◌, ◌++◌, OnOk, not};
-ghost use Rattle.std.specs.List.{flat_map};
+ghost use Rattle.std.specs.List.{flat_map, list_all, list_any};
+ghost use Rattle.std.specs.Ordering.{int_eq};
 ghost use Rattle.std.specs.Str.{bytes_eq};
+ghost use Rattle.metric_names.specs.Names.{folded};
 ghost use Rattle.metric_views.specs.Selection.{is_kind};
-ghost use Rattle.metric_changes.specs.Parts.{all_parts, differs, has_other_boundaries, is_alike, is_same_temporality, part_changes, when};
+ghost use Rattle.metric_changes.specs.Parts.{all_parts, differs, has_other_boundaries, is_alike, is_same_temporality, keeps_boundaries, part_changes, source_name, when};
 
 use crate::change::{Change, StreamPart};
 use metric_base::Items;
+use metric_catalogue::Catalogue;
 use metric_views::{Stream, StreamAggregation, Temporality, is_of_kind};
 use std::alloc::AllocError;
 
@@ -15,6 +18,13 @@ use std::alloc::AllocError;
 pub(crate) struct Numbers {
     pub(crate) old: usize,
     pub(crate) new: usize,
+}
+
+/// A stream of a catalogue.
+#[derive(Clone, Copy)]
+pub(crate) struct Sourced<'s> {
+    pub(crate) catalogue: &'s Catalogue,
+    pub(crate) stream: &'s Stream,
 }
 
 /// Puts a change last, where it holds.
@@ -35,11 +45,12 @@ pub(crate) fn add_when(
 pub(crate) fn add_parts(
     changes: &mut Items<Change>,
     of: Numbers,
-    old: &Stream,
-    new: &Stream,
+    old: Sourced<'_>,
+    new: Sourced<'_>,
 ) -> Result<(), AllocError>
-    ensures { OnOk result (changes.new ≡ changes.old
-        ++ part_changes of.old of.new old.now new.now all_parts) }
+    ensures { OnOk result (changes.new ≡ changes.old ++ part_changes of.old of.new
+        old.entry.catalogue.now new.entry.catalogue.now old.entry.stream.now new.entry.stream.now
+        all_parts) }
 {
     let parts = [
         StreamPart::Name,
@@ -48,8 +59,10 @@ pub(crate) fn add_parts(
         StreamPart::Kind,
         StreamPart::Aggregation,
         StreamPart::Boundaries,
+        StreamPart::MoreBoundaries,
         StreamPart::Limit,
         StreamPart::Temporality,
+        StreamPart::Instrument,
     ];
     add_these(changes, parts.as_slice(), of, old, new)
 }
@@ -59,11 +72,12 @@ fn add_these(
     changes: &mut Items<Change>,
     parts: &[StreamPart],
     of: Numbers,
-    old: &Stream,
-    new: &Stream,
+    old: Sourced<'_>,
+    new: Sourced<'_>,
 ) -> Result<(), AllocError>
-    ensures { OnOk result (changes.new ≡ changes.old
-        ++ part_changes of.old of.new old.now new.now parts.now) }
+    ensures { OnOk result (changes.new ≡ changes.old ++ part_changes of.old of.new
+        old.entry.catalogue.now new.entry.catalogue.now old.entry.stream.now new.entry.stream.now
+        parts.now) }
 {
     for part in parts {
         let change = Change::StreamChanged {
@@ -77,23 +91,53 @@ fn add_these(
 }
 
 // Whether two streams differ in a part.
-fn differs(part: StreamPart, old: &Stream, new: &Stream) -> bool
-    ensures { result ≡ differs part old.now new.now }
+fn differs(part: StreamPart, old: Sourced<'_>, new: Sourced<'_>) -> bool
+    ensures { result ≡ differs part old.entry.catalogue.now new.entry.catalogue.now
+        old.entry.stream.now new.entry.stream.now }
 {
+    let one = old.stream;
+    let other = new.stream;
     match part {
-        StreamPart::Name => are_others(old.name.get().as_str(), new.name.get().as_str()),
+        StreamPart::Name => are_others(one.name.get().as_str(), other.name.get().as_str()),
         StreamPart::Description => {
             are_others(
-                old.description.get().as_str(),
-                new.description.get().as_str(),
+                one.description.get().as_str(),
+                other.description.get().as_str(),
             )
         }
-        StreamPart::Unit => are_others(old.unit.get().as_str(), new.unit.get().as_str()),
-        StreamPart::Kind => !is_of_kind(&Some(old.kind), new.kind),
-        StreamPart::Aggregation => !is_alike(&old.aggregation, &new.aggregation),
-        StreamPart::Boundaries => has_other_boundaries(&old.aggregation, &new.aggregation),
-        StreamPart::Limit => old.limit != new.limit,
-        StreamPart::Temporality => !is_same_temporality(old.temporality, new.temporality),
+        StreamPart::Unit => are_others(one.unit.get().as_str(), other.unit.get().as_str()),
+        StreamPart::Kind => !is_of_kind(&Some(one.kind), other.kind),
+        StreamPart::Aggregation => !is_alike(&one.aggregation, &other.aggregation),
+        StreamPart::Boundaries => {
+            has_other_boundaries(&one.aggregation, &other.aggregation)
+                && !keeps_boundaries(&one.aggregation, &other.aggregation)
+        }
+        StreamPart::MoreBoundaries => {
+            has_other_boundaries(&one.aggregation, &other.aggregation)
+                && keeps_boundaries(&one.aggregation, &other.aggregation)
+        }
+        StreamPart::Limit => one.limit != other.limit,
+        StreamPart::Temporality => !is_same_temporality(one.temporality, other.temporality),
+        StreamPart::Instrument => has_other_source(old, new),
+    }
+}
+
+// Whether the instruments of two streams have other names.
+fn has_other_source(old: Sourced<'_>, new: Sourced<'_>) -> bool
+    ensures { result ≡ not (bytes_eq
+        (folded (source_name old.entry.catalogue.now old.entry.stream.now))
+        (folded (source_name new.entry.catalogue.now new.entry.stream.now))) }
+{
+    let name = source_name(old.catalogue, old.stream);
+    !name.eq_ignore_ascii_case(source_name(new.catalogue, new.stream))
+}
+
+fn source_name<'s>(catalogue: &'s Catalogue, stream: &Stream) -> &'s str
+    ensures { result.now ≡ source_name catalogue.now stream.now }
+{
+    match catalogue.instruments().get(stream.instrument as usize) {
+        Some(instrument) => instrument.name.get().as_str(),
+        None => "",
     }
 }
 
@@ -123,6 +167,33 @@ fn has_other_boundaries(old: &StreamAggregation, new: &StreamAggregation) -> boo
         }
         _ => false,
     }
+}
+
+// Whether both are histograms, and each boundary of the first is one of the second.
+fn keeps_boundaries(old: &StreamAggregation, new: &StreamAggregation) -> bool
+    ensures { result ≡ keeps_boundaries old.now new.now }
+{
+    match (old, new) {
+        (StreamAggregation::Histogram(old), StreamAggregation::Histogram(new)) => {
+            has_each(new.get().as_slice(), old.get().as_slice())
+        }
+        _ => false,
+    }
+}
+
+fn has_each(others: &[i64], boundaries: &[i64]) -> bool
+    ensures { result
+        ≡ list_all (λ boundary. list_any (int_eq boundary) others.now) boundaries.now }
+{
+    boundaries
+        .iter()
+        .all(|boundary| has_boundary(others, *boundary))
+}
+
+fn has_boundary(boundaries: &[i64], boundary: i64) -> bool
+    ensures { result ≡ list_any (int_eq boundary) boundaries.now }
+{
+    boundaries.iter().any(|other| boundary == *other)
 }
 
 fn is_same_temporality(old: Temporality, new: Temporality) -> bool

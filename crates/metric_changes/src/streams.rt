@@ -5,7 +5,7 @@ ghost use Rattle.metric_changes.specs.Parts.{differences_with};
 
 use crate::change::Change;
 use crate::keys::{add_keys, with_keys};
-use crate::parts::{Numbers, add_parts};
+use crate::parts::{Numbers, Sourced, add_parts};
 use crate::side::Side;
 use metric_base::Items;
 use metric_views::Stream;
@@ -68,7 +68,15 @@ fn add_of_streams(
         ++ differences_with old.entry.catalogue.now new.entry.catalogue.now of.old of.new
         (Some one.now) (Some another.now)) }
 {
-    add_parts(changes, of, one, another)?;
+    let old_stream = Sourced {
+        catalogue: old.catalogue,
+        stream: one,
+    };
+    let new_stream = Sourced {
+        catalogue: new.catalogue,
+        stream: another,
+    };
+    add_parts(changes, of, old_stream, new_stream)?;
     let old_keys = with_keys(old.catalogue, one);
     let new_keys = with_keys(new.catalogue, another);
     add_keys(changes, of, old_keys, new_keys)

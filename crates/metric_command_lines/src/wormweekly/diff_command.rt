@@ -12,7 +12,7 @@ use std::alloc::{AllocError, Global};
 const ABOUT: &str = "Prints what a change of a catalogue or a config does, and what it breaks";
 
 const EXAMPLE: &str =
-    "Breaking: a stream or a key goes, or a name is spelled otherwise, or a unit, a kind, an aggregation or a temporality differs.
+    "Breaking: what dashboards and alerts name goes or is made otherwise, or a recording that was declared may be refused.
 
 Example:
   wormweekly diff old/catalogue.toml old/config.toml catalogue.toml config.toml --deny breaking";

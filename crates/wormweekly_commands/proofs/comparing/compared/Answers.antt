@@ -14,7 +14,7 @@ returns-clause-ok c =
       new = c.in_ok-new.ensures.ok;
       claim = c.in_ok-claim.ensures.ok;
       changes =
-          c.in_ok-changes.ensures
+          c.in_ok-changes.ensures.exact
           ∙ same_changes _ _ _ _
           (c.side_of-old_side.ensures ∙ ap (λ (s : List Stream). plan old.declared.catalogue old.declared.config s old.rooms) c.in_ok-old_streams.ensures.list)
           (c.side_of-new_side.ensures ∙ ap (λ (s : List Stream). plan new.declared.catalogue new.declared.config s new.rooms) c.in_ok-new_streams.ensures.list);
