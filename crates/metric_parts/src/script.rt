@@ -24,9 +24,19 @@ impl<'a> Model for Script<'a> {
 }
 
 impl<'a> Script<'a> {
-    /// The lines at the end of an input, with their numbers there. Of an input that is a script alone they are all
-    /// lines.
-    pub fn at_end(lines: &'a [&'a [u8]], input: &[&[u8]]) -> Script<'a>
+    /// The lines of a text that is a script, numbered from 1.
+    pub fn of_lines(lines: &'a [&'a [u8]]) -> Script<'a>
+        ensures lines { result.lines ≡ texts lines.entry.now }
+        ensures first { result.first_line ≡ 1 }
+    {
+        Script {
+            lines,
+            first_line: 1,
+        }
+    }
+
+    // The lines at the end of an input, with their numbers there.
+    pub(crate) fn at_end(lines: &'a [&'a [u8]], input: &[&[u8]]) -> Script<'a>
         requires { length lines.now ≤ length input.now }
         ensures lines { result.lines ≡ texts lines.entry.now }
         ensures first { result.first_line + length lines.entry.now ≡ length input.entry.now + 1 }

@@ -297,7 +297,7 @@ fn run_replay<W: Sink, E: Sink>(
         return Err(missing(Role::Script));
     };
     let lines = lines(alloc, script.as_str().as_bytes())?;
-    let parts = scripted(alloc, &texts.parts, &lines, &lines)?;
+    let parts = scripted(alloc, &texts.parts, &lines)?;
     replay_script(alloc, request, &parts, sink, errors)
 }
 

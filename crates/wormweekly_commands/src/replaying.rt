@@ -1,5 +1,5 @@
 //! A script replayed.
-ghost use Rattle.std.specs.Prelude.{◌≡◌, ◌≢◌, IfOk, Some, is_some, length, not};
+ghost use Rattle.std.specs.Prelude.{◌≡◌, ◌≢◌, IfOk, Some, is_some, not};
 ghost use Rattle.metric_kit_commands.specs.Commands.{HasNeeded, sink_run};
 ghost use Rattle.metric_kit_commands.specs.Replaying.{needs_of, plain_options};
 ghost use Rattle.metric_parts.specs.Reading.{texts};
@@ -76,14 +76,12 @@ pub(crate) fn replay_in_form<W: Sink>(
     }
 }
 
-/// The parts of a replay: those of its files, with the lines of its script, which are all lines of its input.
+/// The parts of a replay: those of its files, with the lines of its script.
 pub(crate) fn scripted<'a>(
     alloc: Global,
     parts: &Parts<'_>,
     lines: &'a [&'a [u8]],
-    input: &[&[u8]],
 ) -> Result<Parts<'a>, AllocError>
-    requires { length lines.now ≡ length input.now }
     ensures { IfOk result (λ all.
         all ≡ record parts.now { script = Some (script_of (texts lines.entry.now)) }) }
 {
@@ -91,16 +89,8 @@ pub(crate) fn scripted<'a>(
         catalogue: Text::new(alloc, parts.catalogue.as_str())?,
         config: Text::new(alloc, parts.config.as_str())?,
         certificate: copied(alloc, &parts.certificate)?,
-        script: Some(script_of(lines, input)),
+        script: Some(Script::of_lines(lines)),
     })
-}
-
-// The script of these lines, numbered from 1.
-fn script_of<'a>(lines: &'a [&'a [u8]], input: &[&[u8]]) -> Script<'a>
-    requires { length lines.now ≡ length input.now }
-    ensures { result ≡ script_of (texts lines.entry.now) }
-{
-    Script::at_end(lines, input)
 }
 
 // The same text, where there is one.
