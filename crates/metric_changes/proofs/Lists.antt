@@ -53,3 +53,10 @@ place_more names n own name within is =
     let more : take (n + 1) names ≡ take n names ++ own ∷ [] = take_more names n own within ∙ ap (λ (x : List ℕ). take n names ++ x ∷ []) (sym is) in
     let pushed = position_from-push (λ other. bytes_eq name other) 0 (take n names) own in
     rw more (rw long at pushed)
+
+-- four lists, one put last after the other
+pub four : {X : Type 0} (start a b c all first second third last : List X) → a ≡ start ++ first → b ≡ a ++ second → c ≡ b ++ third → all ≡ c ++ last
+    → all ≡ start ++ (first ++ (second ++ (third ++ last)))
+four {X} start a b c all first second third last is_a is_b is_c is_all =
+    is_all ∙ ap (λ (xs : List X). xs ++ last) (is_c ∙ ap (λ (xs : List X). xs ++ third) (is_b ∙ ap (λ (xs : List X). xs ++ second) is_a))
+    ∙ append_assoc ((start ++ first) ++ second) third last ∙ append_assoc (start ++ first) second (third ++ last) ∙ append_assoc start first (second ++ (third ++ last))
