@@ -12,11 +12,12 @@ use Rattle.metric_seat.specs.Collections.{AnswersCollector, collectable}
 use Rattle.metric_seat.specs.Handing.{HandsReading}
 use Rattle.metric_seat.specs.OneSlot.{CollectsSlot}
 use Rattle.metric_seat.specs.Seats.{CollectorValue, provider_of}
+use Rattle.metric_seat.specs.declared.run_id.RunId.{RunId}
 use Rattle.metric_hosted.specs.Collections.{AnswersReading, allowance_of, with_collected}
 use Rattle.metric_hosted.specs.Hosts.{HostedValue, number_of}
 
 -- an instrument of a run that has this cell after a collection by a seat which may make it, or may not
-pub record IsRead (allowed : Result Facts Refusal) (h : HostedValue) (seat : CollectorValue) (run now : ℕ) (new : CellValue MarkedValue) (r : Result Batch Refusal) : Type 0 where
+pub record IsRead (allowed : Result Facts Refusal) (h : HostedValue) (seat : CollectorValue) (run : RunId) (now : ℕ) (new : CellValue MarkedValue) (r : Result Batch Refusal) : Type 0 where
   pub answer : AnswersReading allowed h seat now r
   pub batch : IfOk r (λ batch. ReportsBatch StandsMarked h.cell seat.number now batch)
   pub new_is : IfOk r (λ batch. record { run = run; cell = new } ≡ with_collected h seat.number batch.time new.book)
@@ -40,7 +41,7 @@ of_slot (Ok own) h seat now new (Err refusal) answer handed =
     record { answer = handed.0; batch = tt; new_is = tt; stands = tt; same = ap (λ (c : CellValue MarkedValue). record h { cell = c }) handed.1 }
 
 -- the same of the instrument whose parts these are
-pub read : (plan : PlanValue) (h : HostedValue) (seat : CollectorValue) (run i now : ℕ) (old new : CellValue MarkedValue) (r : Result Batch Refusal)
+pub read : (plan : PlanValue) (h : HostedValue) (seat : CollectorValue) (run : RunId) (i now : ℕ) (old new : CellValue MarkedValue) (r : Result Batch Refusal)
     → record { run = run; cell = old } ≡ h → i ≡ number_of h
     → AnswersCollector (collectable (provider_of plan run) seat i) seat i now r
     → HandsReading (CollectsSlot StandsMarked) (collectable (provider_of plan run) seat i) seat i old new now r

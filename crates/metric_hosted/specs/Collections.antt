@@ -22,9 +22,9 @@ abbrev pub AnswersReading : Result Facts Refusal → HostedValue → CollectorVa
 AnswersReading (Err first) h seat now (Err refusal) = refusal ≡ first
 AnswersReading (Err first) h seat now (Ok batch) = ⊥
 AnswersReading (Ok own) h seat now (Ok batch) =
-    IsNextBatch own seat.start seat.number (seen_at seat (number_of h)) now batch
+    IsNextBatch own seat.run.start seat.number (seen_at seat (number_of h)) now batch
 AnswersReading (Ok own) h seat now (Err refusal) =
-    RefusesReader h.cell own seat.start (seen_at seat (number_of h)) seat.number refusal
+    RefusesReader h.cell own seat.run.start (seen_at seat (number_of h)) seat.number refusal
 
 -- the instrument after a batch of a reader with this time, in which the
 -- book has moved the reader's mark

@@ -4,11 +4,12 @@ use Rattle.metric_core.specs.Cells.{CellValue}
 use Rattle.metric_marked.specs.Marks.{MarkedValue}
 use Rattle.metric_plan.specs.Plans.{PlanValue}
 use Rattle.metric_seat.specs.Seats.{ProviderValue, provider_of}
+use Rattle.metric_seat.specs.declared.run_id.RunId.{RunId}
 
 -- # hosted instrument (profile) [HostedValue, run_of]
--- The state of an instrument and the number of its run; what a seat with a plan takes that run for.
+-- The state of an instrument and its run; what a seat with a plan takes that run for.
 pub record HostedValue : Type 0 where
-  pub run : ℕ
+  pub run : RunId
   pub cell : CellValue MarkedValue
 
 -- the number of the instrument

@@ -10,6 +10,7 @@ ghost use Rattle.metric_hosted.specs.Settlements.{Settles, seated};
 ghost use Rattle.metric_marked.specs.Marks.{StandsMarked};
 ghost use Rattle.metric_seat.specs.Collections.{with_seen};
 ghost use Rattle.metric_seat.specs.Recordings.{KnowsRecording};
+ghost use Rattle.metric_seat.specs.Seats.{run_of};
 
 use crate::settling::{SeatTold, seated};
 use metric_contents::{Refusal, SetKey};
@@ -17,7 +18,7 @@ use metric_core::Cell;
 use metric_history::Batch;
 use metric_marked::Marked;
 use metric_plan::Plan;
-use metric_seat::{FinishFault, ReaderSeat, RecorderSeat, Total, total_of_all};
+use metric_seat::{FinishFault, ReaderSeat, RecorderSeat, RunId, Total, total_of_all};
 use metric_slot::Slot;
 use std::alloc::{AllocError, Global};
 use std::marker::Model;
@@ -26,7 +27,7 @@ use std::marker::Model;
 /// provider). Recordings and collections are made by the seats.
 #[derive(Drop)]
 pub struct Hosted {
-    run: u64,
+    run: RunId,
     slot: Slot<Marked>,
 }
 
@@ -50,7 +51,7 @@ impl Hosted {
     ) -> Result<Hosted, AllocError>
         requires certified { IsTrue plan.now.is_certified }
         requires known { instrument < length plan.now.facts.instruments }
-        ensures run { IfOk result (λ hosted. hosted.run ≡ run) }
+        ensures run { IfOk result (λ hosted. hosted.run ≡ run_of plan.now run start) }
         ensures facts { IfOk result (λ hosted.
             slice_get plan.now.facts.instruments instrument ≡ Some hosted.cell.facts) }
         ensures new { IfOk result (λ hosted.
@@ -58,11 +59,12 @@ impl Hosted {
         ensures stands { IfOk result (λ hosted. CellStands StandsMarked hosted.cell []) }
     {
         let slot = Slot::with_seed(alloc, plan, instrument, start, seed_of(start, run))?;
+        let run = RunId::of(plan, run, start);
         Ok(Hosted { run, slot })
     }
 
-    /// The number of the run.
-    pub fn run(&self) -> u64
+    /// The run.
+    pub fn run(&self) -> RunId
         ensures { result ≡ self.now.run }
     {
         self.run

@@ -15,6 +15,8 @@ mod settling;
 
 pub use budget::{Budget, Spare};
 pub use instrument::Hosted;
-pub use metric_seat::{FinishFault, Measurement, ReaderSeat, RecorderSeat, SetsFault, Total};
+pub use metric_seat::{
+    FinishFault, Measurement, ReaderSeat, RecorderSeat, RunId, SetsFault, Total,
+};
 pub use planned::{HostedReader, HostedRecorder};
 pub use settling::SeatTold;

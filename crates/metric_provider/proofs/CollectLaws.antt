@@ -10,7 +10,8 @@ use Rattle.metric_contents.specs.declared.refusal.Refusal.{Refusal}
 use Rattle.metric_history.specs.declared.batch.Batch.{Batch}
 use Rattle.metric_facts.specs.declared.facts.Facts.{Facts}
 use Rattle.metric_seat.specs.Collections.{AnswersCollector, AnswersEach, IsNextBatch, IsRefusedAt, collectable, with_all_seen, with_seen}
-use Rattle.metric_seat.specs.Seats.{CollectorValue, ProviderValue, is_collector_of, seen_at}
+use Rattle.metric_seat.specs.declared.run_id.RunId.{RunId}
+use Rattle.metric_seat.specs.Seats.{CollectorValue, ProviderValue, is_collector_of, seen_at, is_same_run}
 use Rattle.metric_slot.specs.declared.seen.Seen.{Seen}
 use Rattle.metric_slot.specs.Sightings.{nothing_seen, seen_of}
 
@@ -19,13 +20,13 @@ pub record IsCollected (p : ProviderValue) (seat : CollectorValue) (instrument n
   pub own : Facts
   pub found : slice_get p.plan.facts.instruments instrument ≡ Some own
   pub long : length seat.seen ≡ length p.plan.facts.instruments
-  pub next : IsNextBatch own seat.start seat.number (seen_at seat instrument) now batch
+  pub next : IsNextBatch own seat.run.start seat.number (seen_at seat instrument) now batch
 
 seat_long : (p : ProviderValue) (seat : CollectorValue) → is_collector_of p seat ≡ true → length seat.seen ≡ length p.plan.facts.instruments
 seat_long p seat of =
     let long = length seat.seen == length p.plan.facts.instruments in
     let known = nat_lt seat.number (length p.plan.config.readers) in
-    let parts = and_parts (seat.run == p.run) (known && long) of in
+    let parts = and_parts (is_same_run seat.run p.run) (known && long) of in
     eqb-true (length seat.seen) (length p.plan.facts.instruments) (and_parts known long parts.1).1
 
 pub collected : (p : ProviderValue) (seat : CollectorValue) (instrument now : ℕ) (batch : Batch) → AnswersCollector (collectable p seat instrument) seat instrument now (Ok batch) → IsCollected p seat instrument now batch
@@ -85,19 +86,19 @@ first_length p seat now (d ∷ done) below each =
     ∙ ap (λ (n : ℕ). length (d ∷ done) + n) (length-drop (length (d ∷ done)) seat.seen) in
     omega (arith, parts, from.long, below)
 
-moved : (allowed : Result Facts Refusal) (start number : ℕ) (all none : List Seen) (run i now : ℕ) (result : Result Batch Refusal)
-    → slice_index_or all i (nothing_seen start) ≡ slice_index_or none i (nothing_seen start)
-    → AnswersCollector allowed (record { run = run; start = start; number = number; seen = all }) i now result
-    → AnswersCollector allowed (record { run = run; start = start; number = number; seen = none }) i now result
-moved (Err first) start number all none run i now (Err refusal) same answer = answer
-moved (Err first) start number all none run i now (Ok batch) same answer = absurd answer
-moved (Ok own) start number all none run i now (Ok batch) same answer = subst (λ (seen : Seen). IsNextBatch own start number seen now batch) same answer
-moved (Ok own) start number all none run i now (Err refusal) same answer = answer
+moved : (allowed : Result Facts Refusal) (number : ℕ) (all none : List Seen) (run : RunId) (i now : ℕ) (result : Result Batch Refusal)
+    → slice_index_or all i (nothing_seen run.start) ≡ slice_index_or none i (nothing_seen run.start)
+    → AnswersCollector allowed (record { run = run; number = number; seen = all }) i now result
+    → AnswersCollector allowed (record { run = run; number = number; seen = none }) i now result
+moved (Err first) number all none run i now (Err refusal) same answer = answer
+moved (Err first) number all none run i now (Ok batch) same answer = absurd answer
+moved (Ok own) number all none run i now (Ok batch) same answer = subst (λ (seen : Seen). IsNextBatch own run.start number seen now batch) same answer
+moved (Ok own) number all none run i now (Err refusal) same answer = answer
 
 own_as_first : (p : ProviderValue) (seat : CollectorValue) (now : ℕ) (done : List Batch) → length done < length p.plan.facts.instruments
     → AnswersEach p seat now done → is_collector_of p (with_all_seen seat done) ≡ is_collector_of p seat
 own_as_first p seat now done below each =
-    ap (λ (n : ℕ). (seat.run == p.run) && (nat_lt seat.number (length p.plan.config.readers) && (n == length p.plan.facts.instruments)))
+    ap (λ (n : ℕ). is_same_run seat.run p.run && (nat_lt seat.number (length p.plan.config.readers) && (n == length p.plan.facts.instruments)))
     (first_length p seat now done below each)
 
 pub as_first : (p : ProviderValue) (first seat : CollectorValue) (now : ℕ) (done : List Batch) (i : ℕ) (result : Result Batch Refusal) → length done ≡ i
@@ -109,8 +110,8 @@ as_first p first seat now done i result count seen known each answer =
     let here : AnswersCollector (collectable p later i) later i now result =
     subst (λ (s : CollectorValue). AnswersCollector (collectable p s i) s i now result) seen answer in
     let same : seen_at later i ≡ seen_at first i =
-    subst (λ (n : ℕ). seen_at later n ≡ seen_at first n) count (next_seen done first.seen (nothing_seen first.start)) in
-    moved (collectable p first i) first.start first.number later.seen first.seen first.run i now result same
+    subst (λ (n : ℕ). seen_at later n ≡ seen_at first n) count (next_seen done first.seen (nothing_seen first.run.start)) in
+    moved (collectable p first i) first.number later.seen first.seen first.run i now result same
     (subst (λ (b : Bool). AnswersCollector (require b Stranger >>= λ _. require_some (slice_get p.plan.facts.instruments i) UnknownInstrument) later i now result)
     (own_as_first p first now done below each) here)
 

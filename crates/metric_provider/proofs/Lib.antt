@@ -8,3 +8,5 @@ pub mod RollLaws
 pub mod BatchLaws
 pub mod WindowLaws
 mod RoomLaws
+pub mod StepLaws
+pub mod TurnLaws

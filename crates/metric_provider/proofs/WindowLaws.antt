@@ -21,16 +21,16 @@ pub meets : (p : ProviderValue) (seat : CollectorValue) (instrument first later 
     → slice_get p.plan.facts.instruments instrument ≡ Some own
     → AnswersCollector (collectable p seat instrument) seat instrument first (Ok before)
     → AnswersCollector (collectable p (with_seen seat instrument before) instrument) (with_seen seat instrument before) instrument later (Ok after)
-    → Meets own seat.start seat.number before after
+    → Meets own seat.run.start seat.number before after
 meets p seat instrument first later own before after found told then =
     let seen : CollectorValue = with_seen seat instrument before in
     let a = collected p seat instrument first before told in
     let b = collected p seen instrument later after then in
     let below : instrument < length seat.seen = omega (arith, a.long, slice_get_within p.plan.facts.instruments instrument own found) in
-    let last : seen_at seen instrument ≡ seen_of before = get_or-set_same seat.seen instrument (seen_of before) (nothing_seen seat.start) below in
+    let last : seen_at seen instrument ≡ seen_of before = get_or-set_same seat.seen instrument (seen_of before) (nothing_seen seat.run.start) below in
     let first_own : a.own ≡ own = same_Some a.own own (sym a.found ∙ found) in
     let later_own : b.own ≡ own = same_Some b.own own (sym b.found ∙ found) in
-    of_next own seat.start seat.number first later (seen_at seat instrument) before after
-    (subst (λ (f : Facts). IsNextBatch f seat.start seat.number (seen_at seat instrument) first before) first_own a.next)
-    (subst (λ (s : Seen). IsNextBatch own seat.start seat.number s later after) last
-    (subst (λ (f : Facts). IsNextBatch f seat.start seat.number (seen_at seen instrument) later after) later_own b.next))
+    of_next own seat.run.start seat.number first later (seen_at seat instrument) before after
+    (subst (λ (f : Facts). IsNextBatch f seat.run.start seat.number (seen_at seat instrument) first before) first_own a.next)
+    (subst (λ (s : Seen). IsNextBatch own seat.run.start seat.number s later after) last
+    (subst (λ (f : Facts). IsNextBatch f seat.run.start seat.number (seen_at seen instrument) later after) later_own b.next))

@@ -11,3 +11,4 @@ pub mod Windows
 pub mod Rolling
 pub mod Faults
 pub mod Rooms
+pub mod Steps

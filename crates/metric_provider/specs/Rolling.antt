@@ -10,21 +10,22 @@ use Rattle.metric_provider.specs.declared.fault.RollFault.{RollFault}
 use Rattle.metric_provider.specs.declared.fault.RollFault.TheVariants.{SameRun, Early}
 use Rattle.metric_provider.specs.declared.fault.RollFault.TheVariants.{Finish}
 use Rattle.metric_provider.specs.Locked.{AreLanes, AreLocked}
+use Rattle.metric_seat.specs.declared.run_id.RunId.{RunId}
 use Rattle.metric_seat.specs.Seats.{CollectorValue, RecorderValue, new_collector, new_recorder}
 use Rattle.metric_provider.specs.Totals.{RefusesFinish}
 
 -- # new seats of a run (profile) [new_recorders, new_collectors]
 -- One for each recorder, told of nothing, or for each reader, which has seen nothing of the run, in
 -- order.
-abbrev pub new_recorders : Bool → ℕ → PlanValue → List RecorderValue
+abbrev pub new_recorders : Bool → RunId → PlanValue → List RecorderValue
 new_recorders keeps run plan =
     map (new_recorder keeps run (length plan.facts.instruments))
     (range_with_len 0 (length plan.facts.contents.recorders))
 
 -- those of all its readers, which have seen nothing of the run, which started then
-abbrev pub new_collectors : ℕ → ℕ → PlanValue → List CollectorValue
-new_collectors run start plan =
-    map (new_collector run start (length plan.facts.instruments))
+abbrev pub new_collectors : RunId → PlanValue → List CollectorValue
+new_collectors run plan =
+    map (new_collector run (length plan.facts.instruments))
     (range_with_len 0 (length plan.config.readers))
 
 -- the greatest time of a last batch of the readers of these lanes; the start of the run before one,

@@ -26,4 +26,4 @@ WindowsMeet =
     → (let seen = with_seen seat instrument before in
     let asked = collectable p seen instrument in
     AnswersCollector asked seen instrument later (Ok after))
-    → Meets own seat.start seat.number before after
+    → Meets own seat.run.start seat.number before after

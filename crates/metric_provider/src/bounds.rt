@@ -19,9 +19,10 @@ pub fn batches_are_bounded<B: Book, G: Gate>(provider: &Provider<B, G>)
     journals_are_bounded();
 }
 
-/// The windows of a reader meet: a batch of an instrument begins where and when the reader's batch before that ended
-/// (delta), or with the run (cumulative), so that no recording and no moment is left out or told twice (Metrics SDK,
-/// temporality). The function does nothing.
+/// The windows of a reader meet: by its numbers and its times, a batch of an instrument begins where the reader's batch
+/// before that ended (delta), or with the run (cumulative), so that no number and no moment is left out or told twice
+/// (Metrics SDK, temporality). Which recordings have these numbers is said by no law over batches: under its lock each
+/// lane reports the recordings of its journal from its last mark on. The function does nothing.
 pub fn windows_meet()
     ensures { WindowsMeet }
 {}

@@ -1,134 +1,120 @@
 //! A collection of all lanes of an instrument. Their locks are taken in ascending order, each by a call of its own,
 //! which holds it until all lanes have reported: so a collection is one step. Refused, no lane has changed.
-ghost use Rattle.std.specs.Prelude.{◌≡◌, ◌<◌, ◌≤◌, IfErr, IfOk, OnErr, OnOk, length};
-ghost use Rattle.metric_lanes.specs.Gathering.{Gathers, IsTold};
-ghost use Rattle.metric_safety.specs.SafeFacts.{IsSafeFacts};
+ghost use Rattle.std.specs.Prelude.{◌≡◌, ◌<◌, ◌≤◌, None, IfErr, IfOk, IfSome, OnErr, length};
+ghost use Rattle.metric_lanes.specs.Gathering.{IsTold};
+ghost use Rattle.metric_provider.specs.Steps.{Collects, IsBatchOf, IsGathered, JoinsAnswer, TakesNothing};
 ghost use Rattle.metric_seat.specs.Collections.{RefusesCollection};
 ghost use Rattle.metric_slot.specs.Sightings.{seen_of};
 
-use crate::gate::Gate;
-use crate::lanes::Locked;
+use crate::row::{Question, Row};
 use metric_contents::Refusal;
-use metric_facts::Facts;
-use metric_history::{Batch, Book};
-use metric_lanes::{Asked, Gathered};
-use metric_slot::{Seen, Slot};
-use std::alloc::Global;
-use std::sync::{Mutex, Wait};
+use metric_history::Batch;
+use metric_lanes::Gathered;
+use metric_slot::Seen;
+use std::sync::Wait;
 
-/// What the lanes are asked: the facts that each has to have, and what a reader asks of them.
-#[derive(Clone, Copy)]
-pub(crate) struct Question<'a> {
-    pub(crate) alloc: Global,
-    pub(crate) facts: &'a Facts,
-    pub(crate) asked: Asked,
-}
-
-/// Collects of these lanes, which are one or more; the reader has then seen the batch.
-pub(crate) fn collect_lanes<R: Wait, B: Book, G: Gate>(
+/// Collects of all lanes; the reader has then seen the batch.
+pub(crate) fn collect_all<R: Wait, L: Row>(
     rt: &R,
-    gate: &G,
-    lanes: &[Locked<B>],
+    row: &L,
     question: &Question<'_>,
     seen: &mut Seen,
+    diary: &mut L::Diary,
 ) -> Result<Batch, Refusal>
-    requires some { 0 < length lanes.now }
-    requires reader { question.now.asked.reader < length question.now.facts.now.delta }
+    requires { question.now.asked.reader < length question.now.facts.now.delta }
+    ensures collects { IfOk result (λ batch. Collects L.does diary.old 0 (L.count row.now)
+        question.now.facts.now question.now.asked None batch diary.new) }
+    ensures nothing { OnErr result (TakesNothing L.does diary.old diary.new) }
     ensures told { IfOk result (IsTold question.now.facts.now question.now.asked seen.old) }
     ensures seen { IfOk result (λ batch. seen.new ≡ seen_of batch) }
     ensures refused { IfErr result (λ refusal. RefusesCollection refusal) }
     ensures seen_err { OnErr result (seen.new ≡ seen.old) }
 {
-    let slot: &Mutex<Slot<B>> = &lanes[0];
-    let mut guard = slot.lock(rt);
-    match report_of(&guard, question) {
-        Ok(own) => {
-            let batch = collect_with(rt, gate, lanes, question, seen, 1, own)?;
-            guard.advance(question.asked.reader, batch.time);
-            Ok(batch)
-        }
-        Err(refusal) => {
-            gate.inside(rt, question.facts.instrument);
-            Err(refusal)
-        }
-    }
+    collect_from(rt, row, question, seen, 0, None, diary)
 }
 
 // Collects of the lanes from the one of this place on, with what those before it report.
-fn collect_with<R: Wait, B: Book, G: Gate>(
+fn collect_from<R: Wait, L: Row>(
     rt: &R,
-    gate: &G,
-    lanes: &[Locked<B>],
+    row: &L,
     question: &Question<'_>,
     seen: &mut Seen,
     at: usize,
-    before: Gathered,
+    before: Option<Gathered>,
+    diary: &mut L::Diary,
 ) -> Result<Batch, Refusal>
-    requires at { at ≤ length lanes.now }
+    requires at { at ≤ L.count row.now }
     requires reader { question.now.asked.reader < length question.now.facts.now.delta }
-    requires safe { IsSafeFacts question.now.facts.now }
-    requires gathers { Gathers question.now.facts.now before }
-    requires asked { before.asked ≡ question.now.asked }
+    requires before { IfSome before (IsGathered question.now.facts.now question.now.asked) }
+    ensures collects { IfOk result (λ batch. Collects L.does diary.old at (L.count row.now)
+        question.now.facts.now question.now.asked before batch diary.new) }
+    ensures nothing { OnErr result (TakesNothing L.does diary.old diary.new) }
     ensures told { IfOk result (IsTold question.now.facts.now question.now.asked seen.old) }
     ensures seen { IfOk result (λ batch. seen.new ≡ seen_of batch) }
     ensures refused { IfErr result (λ refusal. RefusesCollection refusal) }
     ensures seen_err { OnErr result (seen.new ≡ seen.old) }
 {
-    if at == lanes.len() {
-        gate.inside(rt, question.facts.instrument);
-        return before.finish(seen);
+    if at == row.count() {
+        row.inside(rt, question.facts.instrument, diary);
+        return told(question, before, seen);
     }
-    let slot: &Mutex<Slot<B>> = &lanes[at];
-    let mut guard = slot.lock(rt);
-    match report_with(&guard, question, &before) {
-        Ok(all) => {
-            let batch = collect_with(rt, gate, lanes, question, seen, at + 1, all)?;
-            guard.advance(question.asked.reader, batch.time);
-            Ok(batch)
-        }
+    let mut held = row.lock(rt, at, diary);
+    let own = L::report(&held, question, diary);
+    let all = match joined(question, before, own) {
+        Ok(all) => all,
         Err(refusal) => {
-            gate.inside(rt, question.facts.instrument);
-            Err(refusal)
+            row.inside(rt, question.facts.instrument, diary);
+            L::unlock(held, diary);
+            return Err(refusal);
         }
+    };
+    let batch = match collect_from(rt, row, question, seen, at + 1, Some(all), diary) {
+        Ok(batch) => batch,
+        Err(refusal) => {
+            L::unlock(held, diary);
+            return Err(refusal);
+        }
+    };
+    L::advance(&mut held, question, batch.time, diary);
+    L::unlock(held, diary);
+    Ok(batch)
+}
+
+// What a lane reports, behind those before it.
+fn joined(
+    question: &Question<'_>,
+    before: Option<Gathered>,
+    own: Result<Gathered, Refusal>,
+) -> Result<Gathered, Refusal>
+    requires before { IfSome before (IsGathered question.now.facts.now question.now.asked) }
+    requires own { IfOk own (IsGathered question.now.facts.now question.now.asked) }
+    requires refused { IfErr own (λ refusal. RefusesCollection refusal) }
+    ensures joins { IfOk result (JoinsAnswer before own) }
+    ensures gathered { IfOk result (IsGathered question.now.facts.now question.now.asked) }
+    ensures refused { IfErr result (λ refusal. RefusesCollection refusal) }
+{
+    let own = own?;
+    match before {
+        Some(before) => before.with(question.alloc, question.facts, &own),
+        None => Ok(own),
     }
 }
 
-// What a lane reports.
-fn report_of<B: Book>(slot: &Slot<B>, question: &Question<'_>) -> Result<Gathered, Refusal>
-    requires { question.now.asked.reader < length question.now.facts.now.delta }
-    ensures gathers { IfOk result (Gathers question.now.facts.now) }
-    ensures asked { IfOk result (λ own. own.asked ≡ question.now.asked) }
-    ensures own { OnOk result (slot.now.facts ≡ question.now.facts.now) }
-    ensures safe { OnOk result (IsSafeFacts question.now.facts.now) }
-    ensures refused { IfErr result (λ refusal. RefusesCollection refusal) }
-{
-    let asked = question.asked;
-    let batch = slot.report(
-        question.alloc,
-        question.facts,
-        asked.start,
-        asked.reader,
-        asked.now,
-    )?;
-    // For the proof alone: what a slot keeps.
-    let _certified = slot.cell();
-    Ok(Gathered::of_lane(slot, asked, batch))
-}
-
-// What a lane reports with those before it.
-fn report_with<B: Book>(
-    slot: &Slot<B>,
+// What all lanes report, if there are any, as the reader is told of it.
+fn told(
     question: &Question<'_>,
-    before: &Gathered,
-) -> Result<Gathered, Refusal>
-    requires reader { question.now.asked.reader < length question.now.facts.now.delta }
-    requires gathers { Gathers question.now.facts.now before.now }
-    requires asked { before.now.asked ≡ question.now.asked }
-    ensures gathers { IfOk result (Gathers question.now.facts.now) }
-    ensures asked { IfOk result (λ all. all.asked ≡ question.now.asked) }
-    ensures own { OnOk result (slot.now.facts ≡ question.now.facts.now) }
+    before: Option<Gathered>,
+    seen: &mut Seen,
+) -> Result<Batch, Refusal>
+    requires { IfSome before (IsGathered question.now.facts.now question.now.asked) }
+    ensures batch { IfOk result (IsBatchOf before) }
+    ensures told { IfOk result (IsTold question.now.facts.now question.now.asked seen.old) }
+    ensures seen { IfOk result (λ batch. seen.new ≡ seen_of batch) }
     ensures refused { IfErr result (λ refusal. RefusesCollection refusal) }
+    ensures seen_err { OnErr result (seen.new ≡ seen.old) }
 {
-    let own = report_of(slot, question)?;
-    before.with(question.alloc, question.facts, &own)
+    match before {
+        Some(all) => all.finish(seen),
+        None => Err(Refusal::Stranger),
+    }
 }

@@ -11,7 +11,7 @@ use crate::provider::Provider;
 use metric_contents::Refusal;
 use metric_history::{Batch, Book};
 use metric_plan::Plan;
-use metric_seat::ReaderSeat;
+use metric_seat::{ReaderSeat, RunId};
 use std::alloc::{AllocError, Global};
 use std::marker::Model;
 use std::sync::Wait;
@@ -33,17 +33,16 @@ impl Model for Collector {
 }
 
 impl Collector {
-    // The seat of the reader of this number, which has seen nothing of a run that started at this time.
+    // The seat of the reader of this number, which has seen nothing of a run.
     pub(crate) fn new(
         alloc: Global,
-        run: u64,
-        start: u64,
+        run: RunId,
         number: u32,
         instruments: usize,
     ) -> Result<Collector, AllocError>
-        ensures { IfOk result (λ seat. seat ≡ new_collector run start instruments number) }
+        ensures { IfOk result (λ seat. seat ≡ new_collector run instruments number) }
     {
-        let seat = ReaderSeat::new(alloc, run, start, number, instruments)?;
+        let seat = ReaderSeat::new(alloc, run, number, instruments)?;
         Ok(Collector { seat })
     }
 
@@ -69,7 +68,7 @@ impl Collector {
     ///
     /// # Errors
     ///
-    /// `Stranger` where the seat's run is of another number, the seat was made for another number of instruments, or
+    /// `Stranger` where the seat's run is another, the seat was made for another number of instruments, or
     /// the plan has no reader of its number; `UnknownInstrument`. Then, under the instrument's lock, `Stranger` where
     /// what is found there is not what the seat has seen, and `Memory`.
     pub fn collect<R: Wait, B: Book, G: Gate>(
@@ -178,7 +177,7 @@ impl Collector {
     }
 
     // Whether the seat is of this run of the plan.
-    fn is_of(&self, plan: &Plan, run: u64) -> bool
+    fn is_of(&self, plan: &Plan, run: RunId) -> bool
         ensures { result ≡ is_collector_of (provider_of plan.now run) self.now }
     {
         self.seat.is_of(plan, run)

@@ -13,10 +13,12 @@ use crate::provider::Provider;
 use crate::recorder::Recorder;
 use crate::settling::{has_all, settle};
 use crate::totals::{Finished, Partly, Totals};
+use crate::turning::turn_each;
 use metric_history::Book;
 use metric_plan::Plan;
-use metric_seat::{FinishFault, are_distinct, has_seat};
+use metric_seat::{FinishFault, RunId, are_distinct, has_seat};
 use std::alloc::{AllocError, Global};
+use std::mem::replace;
 use std::sync::Wait;
 
 impl<B: Book, G: Gate> Provider<B, G> {
@@ -27,7 +29,7 @@ impl<B: Book, G: Gate> Provider<B, G> {
     ///
     /// # Errors
     ///
-    /// - [`FinishFault::Stranger`] where a seat's run is of another number, a seat was made for another number of
+    /// - [`FinishFault::Stranger`] where a seat's run is another, a seat was made for another number of
     ///   instruments, the plan has no recorder of its number, or two seats are of one recorder.
     /// - [`FinishFault::RecorderMissing`] where a recorder has no seat among them.
     /// - [`FinishFault::AuditMismatch`] where an instrument's facts, one of its spent budgets, its count, its sum or a
@@ -178,7 +180,7 @@ impl<B: Book, G: Gate> Provider<B, G> {
 fn settle_seated<B: Book>(
     alloc: Global,
     plan: &Plan,
-    run: u64,
+    run: RunId,
     locked: &mut Vec<Lanes<B>>,
     recorders: &[Recorder],
     all: bool,
@@ -246,14 +248,13 @@ pub(crate) fn settle_locked<B: Book>(
     ensures refused { IfErr result (λ fault. RefusesFinish (Ok tt) fault) }
     ensures back { OnErr result (vec_len locked.new ≡ vec_len locked.old) }
 {
-    let mut unlocked = Vec::with_capacity(alloc, locked.len())?;
-    take_out(locked, &mut unlocked);
-    unlocked.as_mut_slice().reverse();
+    let room = Vec::with_capacity(alloc, locked.len())?;
+    let (unlocked, room) = turn_each(replace(locked, Vec::new(alloc)), room);
     match totals_of(alloc, plan, unlocked.as_slice(), recorders) {
         Ok(totals) => Ok(totals),
         Err(fault) => {
-            unlocked.as_mut_slice().reverse();
-            put_back(&mut unlocked, locked);
+            let (back, _room) = turn_each(unlocked, room);
+            *locked = back;
             Err(fault)
         }
     }
@@ -288,33 +289,11 @@ fn totals_of<B: Book>(
     }
 }
 
-// Takes the instruments out of their locks, the last one first.
-fn take_out<B: Book>(locked: &mut Vec<Lanes<B>>, unlocked: &mut Vec<OpenLanes<B>>)
-    requires room { vec_len unlocked.old + vec_len locked.old ≤ vec_capacity unlocked.old }
-    ensures unlocked { vec_len unlocked.new ≡ vec_len unlocked.old + vec_len locked.old }
-    ensures room { vec_capacity locked.new ≡ vec_capacity locked.old }
-    ensures none { vec_len locked.new ≡ 0 }
-{
-    while let Some(lanes) = locked.pop() {
-        unlocked.push_reserved(lanes.unlock());
-    }
-}
-
-// Puts the instruments behind their locks, the last one first.
-fn put_back<B: Book>(unlocked: &mut Vec<OpenLanes<B>>, locked: &mut Vec<Lanes<B>>)
-    requires room { vec_len locked.old + vec_len unlocked.old ≤ vec_capacity locked.old }
-    ensures { vec_len locked.new ≡ vec_len locked.old + vec_len unlocked.old }
-{
-    while let Some(lanes) = unlocked.pop() {
-        locked.push_reserved(lanes.lock());
-    }
-}
-
 /// Whether the seats are of this run of the plan, no two of one recorder, and where they are to be those of all its
 /// recorders none is missing; or the first fault.
 pub(crate) fn seated_by(
     plan: &Plan,
-    run: u64,
+    run: RunId,
     recorders: &[Recorder],
     all: bool,
 ) -> Result<(), FinishFault>
@@ -332,7 +311,7 @@ pub(crate) fn seated_by(
 }
 
 // Whether each seat is of this run of the plan.
-fn are_of(plan: &Plan, run: u64, recorders: &[Recorder]) -> bool
+fn are_of(plan: &Plan, run: RunId, recorders: &[Recorder]) -> bool
     ensures { result ≡ list_all (is_recorder_of (provider_of plan.now run)) recorders.now }
 {
     recorders.iter().all(|seat| seat.is_of(plan, run))

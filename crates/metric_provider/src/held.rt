@@ -9,10 +9,11 @@ ghost use Rattle.metric_seat.specs.KeyRecordings.{IsRecordable, IsRefusedUnder, 
 ghost use Rattle.metric_seat.specs.Recordings.{RefusesRecording};
 ghost use Rattle.metric_slot.specs.Tellings.{told_more};
 
-use crate::collecting::{Question, collect_lanes};
+use crate::collecting::collect_all;
 use crate::gate::Gate;
-use crate::governing::{Asked, close_from, grant_from};
+use crate::governing::{Asked, close_all, grant_in};
 use crate::lanes::Lanes;
+use crate::row::{Question, Rack, Silent};
 use metric_contents::Refusal;
 use metric_facts::Facts;
 use metric_history::{Batch, Book};
@@ -51,6 +52,15 @@ pub(crate) struct Inside<'a, R, B: Book, G> {
     pub instrument: u32,
 }
 
+impl<'a, R, B: Book, G: Gate> Inside<'a, R, B, G> {
+    // All lanes of the instrument, if the provider has it.
+    pub(crate) fn rack(&self) -> Option<Rack<'a, B, G>> {
+        let gate: &'a G = self.gate;
+        let lanes: &'a Lanes<B> = self.lanes?;
+        Some(Rack { lanes, gate })
+    }
+}
+
 // A recording takes the lock of its recorder's lane; a grant and the end take the locks of all lanes. Each step is made
 // once, and the gate is called before a lock is let go. What becomes of a slot is known of no lock; tests see it.
 impl<R: Wait, B: Book, G: Gate> Held<B> for Inside<'_, R, B, G> {
@@ -83,26 +93,22 @@ impl<R: Wait, B: Book, G: Gate> Governed for Inside<'_, R, B, G> {
     ghost closes = { λ _ _ _. Unit {0} };
 
     fn grant(&mut self, facts: &Facts, recorder: u32, amount: u64) -> Result<(), Refusal> {
-        let Some(lanes) = self.lanes else {
+        let Some(rack) = self.rack() else {
             return Err(Refusal::Closed);
         };
         let asked = Asked {
             facts,
             recorder,
             amount,
-            lane: lanes.place_of(recorder),
         };
-        match grant_from(self.rt, self.gate, lanes.all(), &asked, 0, facts.spare) {
-            Ok(()) => Ok(()),
-            Err(refusal) => Err(refusal),
-        }
+        grant_in(self.rt, &rack, &asked, &mut Silent)
     }
 
     fn close(&mut self) -> Result<(), Refusal> {
-        let Some(lanes) = self.lanes else {
+        let Some(rack) = self.rack() else {
             return Err(Refusal::Closed);
         };
-        close_from(self.rt, self.gate, lanes.all(), self.instrument, 0)
+        close_all(self.rt, &rack, self.instrument, &mut Silent)
     }
 }
 
@@ -118,7 +124,7 @@ impl<R: Wait, B: Book, G: Gate> Collected for Inside<'_, R, B, G> {
         reader: u32,
         now: u64,
     ) -> Result<Batch, Refusal> {
-        let Some(lanes) = self.lanes else {
+        let Some(rack) = self.rack() else {
             return Err(Refusal::Stranger);
         };
         let question = Question {
@@ -126,7 +132,7 @@ impl<R: Wait, B: Book, G: Gate> Collected for Inside<'_, R, B, G> {
             facts,
             asked: metric_lanes::Asked { start, reader, now },
         };
-        collect_lanes(self.rt, self.gate, lanes.all(), &question, seen)
+        collect_all(self.rt, &rack, &question, seen, &mut Silent)
     }
 }
 

@@ -1,6 +1,7 @@
 //! The lanes of an instrument.
 ghost use Rattle.std.specs.Prelude.{◌≡◌, ◌<◌, ◌≤◌, ◌+◌, [], ◌∷◌, IfOk, OnOk, length, vec_capacity, vec_len};
 
+use crate::turning::{Turns, turn_each};
 use crossbeam_utils::CachePadded;
 use metric_history::Book;
 use metric_slot::Slot;
@@ -114,18 +115,9 @@ impl<B: Book> Lanes<B> {
     pub(crate) fn unlock(self) -> OpenLanes<B>
         ensures { length result ≡ self }
     {
-        let Lanes {
-            mut locks,
-            mut room,
-            of,
-        } = self;
-        unlock_each(&mut locks, &mut room);
-        room.as_mut_slice().reverse();
-        OpenLanes {
-            slots: room,
-            room: locks,
-            of,
-        }
+        let Lanes { locks, room, of } = self;
+        let (slots, room) = turn_each(locks, room);
+        OpenLanes { slots, room, of }
     }
 }
 
@@ -155,41 +147,52 @@ impl<B: Book> OpenLanes<B> {
     pub(crate) fn lock(self) -> Lanes<B>
         ensures { result ≡ length self }
     {
-        let OpenLanes {
-            mut slots,
-            mut room,
-            of,
-        } = self;
-        slots.as_mut_slice().reverse();
-        lock_each(&mut slots, &mut room);
-        Lanes {
-            locks: room,
-            room: slots,
-            of,
-        }
+        let OpenLanes { slots, room, of } = self;
+        let (locks, room) = turn_each(slots, room);
+        Lanes { locks, room, of }
     }
 }
 
-// Takes slots out of their locks, the last one first.
-fn unlock_each<B: Book>(locked: &mut Vec<Locked<B>>, slots: &mut Vec<Slot<B>>)
-    requires room { vec_len slots.old + vec_len locked.old ≤ vec_capacity slots.old }
-    ensures slots { vec_len slots.new ≡ vec_len slots.old + vec_len locked.old }
-    ensures room { vec_capacity locked.new ≡ vec_capacity locked.old }
-    ensures none { vec_len locked.new ≡ 0 }
-{
-    while let Some(slot) = locked.pop() {
-        slots.push_reserved(slot.into_inner().into_inner());
+// A lane comes out of its lock.
+impl<B: Book> Turns for Locked<B> {
+    type Other = Slot<B>;
+
+    ghost turns = { λ _ _. Unit {0} };
+
+    fn turn(self) -> Slot<B> {
+        self.into_inner().into_inner()
     }
 }
 
-// Puts slots behind locks, the last one first.
-fn lock_each<B: Book>(slots: &mut Vec<Slot<B>>, locked: &mut Vec<Locked<B>>)
-    requires room { vec_len locked.old + vec_len slots.old ≤ vec_capacity locked.old }
-    ensures locked { vec_len locked.new ≡ vec_len locked.old + vec_len slots.old }
-    ensures room { vec_capacity slots.new ≡ vec_capacity slots.old }
-    ensures none { vec_len slots.new ≡ 0 }
-{
-    while let Some(slot) = slots.pop() {
-        locked.push_reserved(CachePadded::new(Mutex::new(slot)));
+// A lane is put behind its lock.
+impl<B: Book> Turns for Slot<B> {
+    type Other = Locked<B>;
+
+    ghost turns = { λ _ _. Unit {0} };
+
+    fn turn(self) -> Locked<B> {
+        CachePadded::new(Mutex::new(self))
+    }
+}
+
+// An instrument's lanes come out of their locks.
+impl<B: Book> Turns for Lanes<B> {
+    type Other = OpenLanes<B>;
+
+    ghost turns = { λ locked slots. length slots ≡ locked };
+
+    fn turn(self) -> OpenLanes<B> {
+        self.unlock()
+    }
+}
+
+// An instrument's lanes are put behind their locks.
+impl<B: Book> Turns for OpenLanes<B> {
+    type Other = Lanes<B>;
+
+    ghost turns = { λ slots locked. locked ≡ length slots };
+
+    fn turn(self) -> Lanes<B> {
+        self.lock()
     }
 }

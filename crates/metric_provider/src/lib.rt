@@ -19,12 +19,14 @@ mod provider;
 mod recorder;
 mod rolling;
 mod rooms;
+mod row;
 mod settling;
 mod sharing;
 mod starting;
 mod timed;
 mod together;
 mod totals;
+mod turning;
 
 pub use bounds::{batches_are_bounded, windows_meet};
 pub use collector::Collector;

@@ -12,6 +12,7 @@ use crate::lanes::Lanes;
 use metric_contents::Refusal;
 use metric_history::Book;
 use metric_plan::Plan;
+use metric_seat::RunId;
 use metric_slot::certified_facts_are_safe;
 use std::marker::Model;
 use std::sync::Wait;
@@ -20,11 +21,11 @@ use std::sync::Wait;
 /// by reference, and record and collect with their seats, the [`Recorder`](crate::Recorder)s and
 /// [`Collector`](crate::Collector)s.
 ///
-/// Contracts see the plan and the number of the run. What is behind a lock is what its type keeps: the instrument of a
+/// Contracts see the plan and the run. What is behind a lock is what its type keeps: the instrument of a
 /// certified plan, with its recordings within the budgets.
 pub struct Provider<B: Book, G: Gate> {
     plan: Plan,
-    run: u64,
+    run: RunId,
     gate: G,
     slots: Vec<Lanes<B>>,
     // How many lanes an instrument may have.
@@ -60,7 +61,7 @@ impl<B: Book, G: Gate> Provider<B, G> {
     // The provider of a certified plan with the slots of its instruments.
     pub(crate) fn from_slots(
         plan: Plan,
-        run: u64,
+        run: RunId,
         gate: G,
         slots: Vec<Lanes<B>>,
         most: u32,
@@ -78,7 +79,7 @@ impl<B: Book, G: Gate> Provider<B, G> {
     }
 
     // The plan, the run, the gate, the slots, and how many lanes an instrument may have.
-    pub(crate) fn into_slots(self) -> (Plan, u64, G, Vec<Lanes<B>>, u32)
+    pub(crate) fn into_slots(self) -> (Plan, RunId, G, Vec<Lanes<B>>, u32)
         ensures value { provider_of result.0 result.1 ≡ self }
         ensures kept { IsProvider result.0 (vec_len result.3) }
     {
@@ -118,8 +119,8 @@ impl<B: Book, G: Gate> Provider<B, G> {
         self.most
     }
 
-    // The number of the run.
-    pub(crate) fn run(&self) -> u64
+    // The run.
+    pub(crate) fn run(&self) -> RunId
         ensures { result ≡ self.now.run }
     {
         self.run

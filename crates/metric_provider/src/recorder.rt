@@ -11,7 +11,7 @@ use crate::provider::Provider;
 use metric_contents::{Attr, Refusal, SetKey};
 use metric_history::{Book, Slip};
 use metric_plan::Plan;
-use metric_seat::{Measurement, RecorderSeat, SetsFault, Tells};
+use metric_seat::{Measurement, RecorderSeat, RunId, SetsFault, Tells};
 use metric_slot::Told;
 use std::alloc::{AllocError, Global};
 use std::marker::Model;
@@ -36,7 +36,7 @@ impl Recorder {
     // The seat of the recorder of this number, which was told of nothing, and whether it keeps slips.
     pub(crate) fn new(
         alloc: Global,
-        run: u64,
+        run: RunId,
         number: u32,
         instruments: usize,
         keeps: bool,
@@ -55,8 +55,8 @@ impl Recorder {
     }
 
     /// The set key of a recording of this value on the instrument of this number that the seat may make, or the first
-    /// refusal: `Stranger` where the seat's run is of another number, the seat was made for another number of
-    /// instruments, or the plan has no recorder of its number; `UnknownInstrument`, those of the attributes in their
+    /// refusal: `Stranger` where the seat's run is another, the seat was made for another number of instruments, or the
+    /// plan has no recorder of its number; `UnknownInstrument`, those of the attributes in their
     /// order, the last of them `Combination` where they are none of the instrument's allowed combinations, and
     /// `ValueRange`. Allocates no memory and takes no lock.
     pub fn admits<B: Book, G: Gate>(
@@ -103,12 +103,10 @@ impl Recorder {
             IsToldOf B.KEEPS_ENTRIES admission plan self.old self.new instrument value) }
         ensures err { OnErr result (self.new ≡ self.old) }
     {
-        let plan = provider.plan();
-        let run = provider.run();
-        let set = self.seat.admit(plan, run, instrument, attrs, &value)?;
+        let (plan, run) = (provider.plan(), provider.run());
         let mut held = provider.inside(rt, instrument);
         self.seat
-            .record_one(&mut held, plan, run, instrument, set, &value)
+            .record(&mut held, plan, run, instrument, attrs, &value)
     }
 
     /// Makes a recording of a set key that [`Recorder::admits`] answered for the instrument (Metrics API, synchronous
@@ -137,12 +135,10 @@ impl Recorder {
             IsToldOf B.KEEPS_ENTRIES admission plan self.old self.new instrument value) }
         ensures err { OnErr result (self.new ≡ self.old) }
     {
-        let plan = provider.plan();
-        let run = provider.run();
-        let set = self.seat.admit_key(plan, run, instrument, set, &value)?;
+        let (plan, run) = (provider.plan(), provider.run());
         let mut held = provider.inside(rt, instrument);
         self.seat
-            .record_one(&mut held, plan, run, instrument, set, &value)
+            .record_set(&mut held, plan, run, instrument, set, &value)
     }
 
     /// Makes recordings of one instrument by their set keys (Metrics API, synchronous instruments), in order and under
@@ -216,7 +212,7 @@ impl Recorder {
     }
 
     // Whether the seat is of this run of the plan.
-    pub(crate) fn is_of(&self, plan: &Plan, run: u64) -> bool
+    pub(crate) fn is_of(&self, plan: &Plan, run: RunId) -> bool
         ensures { result ≡ is_recorder_of (provider_of plan.now run) self.now }
     {
         self.seat.is_of(plan, run)

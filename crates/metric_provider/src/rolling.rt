@@ -3,7 +3,7 @@ ghost use Rattle.std.specs.Prelude.{◌≡◌, ◌==◌, IsTrue, true, false, If
 ghost use Rattle.std.specs.List.{range_with_len};
 ghost use Rattle.metric_provider.specs.Locked.{AreLockedJournals};
 ghost use Rattle.metric_provider.specs.Rolling.{IsInTime, IsLatest, RefusesNext, RefusesRoll, new_collectors, new_recorders};
-ghost use Rattle.metric_seat.specs.Seats.{provider_of};
+ghost use Rattle.metric_seat.specs.Seats.{provider_of, run_of};
 ghost use Rattle.metric_provider.specs.Totals.{Finishes, RefusesFinish, seated};
 
 use crate::collector::Collector;
@@ -18,7 +18,7 @@ use crate::timed::latest_of;
 use crate::totals::{Rolled, Totals};
 use metric_history::Book;
 use metric_plan::Plan;
-use metric_seat::FinishFault;
+use metric_seat::{FinishFault, RunId};
 use std::alloc::Global;
 use std::sync::Wait;
 
@@ -52,18 +52,20 @@ impl<B: Book, G: Gate> Provider<B, G> {
         ensures behind { IfOk result (λ rolled. let all = self.plan.facts.instruments in
             let journals = rolled.totals.journals.items in
             AreLockedJournals true B.stands B.kept all recorders.items journals) }
-        ensures next { IfOk result (λ rolled. rolled.provider ≡ provider_of self.plan run) }
+        ensures next { IfOk result (λ rolled.
+            rolled.provider ≡ provider_of self.plan (run_of self.plan run start)) }
         ensures next_recorders { IfOk result (λ rolled.
-            rolled.recorders.items ≡ new_recorders B.KEEPS_ENTRIES run self.plan) }
+            rolled.recorders.items
+            ≡ new_recorders B.KEEPS_ENTRIES (run_of self.plan run start) self.plan) }
         ensures next_collectors { IfOk result (λ rolled.
-            rolled.collectors.items ≡ new_collectors run start self.plan) }
+            rolled.collectors.items ≡ new_collectors (run_of self.plan run start) self.plan) }
         ensures seated { OnOk result (seated self recorders.items ≡ Ok tt) }
-        ensures other_run { OnOk result ((run == self.run) ≡ false) }
+        ensures other_run { OnOk result ((run == self.run.number) ≡ false) }
         ensures in_time { OnOk result (
             IsInTime B.stands (length self.plan.facts.instruments) start) }
         ensures refused { IfErr result (λ refused. let locks = length self.plan.facts.instruments in
             let ended = seated self recorders.items in
-            RefusesRoll B.stands locks (run == self.run) start ended refused.2) }
+            RefusesRoll B.stands locks (run == self.run.number) start ended refused.2) }
         ensures provider { IfErr result (λ refused. refused.0 ≡ self) }
         ensures recorders { IfErr result (λ refused. refused.1.items ≡ recorders.items) }
     {
@@ -85,14 +87,14 @@ impl<B: Book, G: Gate> Provider<B, G> {
 
     // Whether the next run has another number than this one, and starts no earlier than its last batches.
     fn may_begin<R: Wait>(&self, rt: &R, next: Beginning) -> Result<(), RollFault>
-        ensures other_run { OnOk result ((next.run == self.now.run) ≡ false) }
+        ensures other_run { OnOk result ((next.run == self.now.run.number) ≡ false) }
         ensures in_time { OnOk result (
             IsInTime B.stands (length self.now.plan.facts.instruments) next.start) }
         ensures refused { let locks = length self.now.plan.facts.instruments in
             IfErr result (λ fault.
-            RefusesNext B.stands locks (next.run == self.now.run) next.start fault) }
+            RefusesNext B.stands locks (next.run == self.now.run.number) next.start fault) }
     {
-        if is_same_run(next, self.run()) {
+        if next.run == self.run().number {
             return Err(RollFault::SameRun);
         }
         let time = self.latest(rt);
@@ -122,11 +124,14 @@ impl<B: Book, G: Gate> Provider<B, G> {
         ensures behind { IfOk result (λ rolled. let all = self.plan.facts.instruments in
             let journals = rolled.totals.journals.items in
             AreLockedJournals true B.stands B.kept all recorders.items journals) }
-        ensures next { IfOk result (λ rolled. rolled.provider ≡ provider_of self.plan next.run) }
+        ensures next { IfOk result (λ rolled.
+            rolled.provider ≡ provider_of self.plan (run_of self.plan next.run next.start)) }
         ensures next_recorders { IfOk result (λ rolled.
-            rolled.recorders.items ≡ new_recorders B.KEEPS_ENTRIES next.run self.plan) }
+            rolled.recorders.items
+            ≡ new_recorders B.KEEPS_ENTRIES (run_of self.plan next.run next.start) self.plan) }
         ensures next_collectors { IfOk result (λ rolled.
-            rolled.collectors.items ≡ new_collectors next.run next.start self.plan) }
+            rolled.collectors.items
+            ≡ new_collectors (run_of self.plan next.run next.start) self.plan) }
         ensures seated { OnOk result (seated self recorders.items ≡ Ok tt) }
         ensures refused { IfErr result (λ refused.
             RefusesFinish (seated self recorders.items) refused.2) }
@@ -142,7 +147,8 @@ impl<B: Book, G: Gate> Provider<B, G> {
                     recorders,
                     collectors,
                 } = parts;
-                let provider = Provider::from_slots(plan, next.run, gate, slots, most);
+                let id = RunId::of(&plan, next.run, next.start);
+                let provider = Provider::from_slots(plan, id, gate, slots, most);
                 Ok(Rolled {
                     provider,
                     recorders,
@@ -166,19 +172,12 @@ struct RolledParts<B: Book> {
     collectors: Vec<Collector>,
 }
 
-// Whether the next run has the number of this one.
-fn is_same_run(next: Beginning, run: u64) -> bool
-    ensures { result ≡ (next.run == run) }
-{
-    next.run == run
-}
-
 // What the provider comes to and the parts of the next one, where the seats are those of all recorders of this run of
 // the plan. The instruments leave their locks last, when the memory for all else was taken.
 fn seated_parts<B: Book>(
     alloc: Global,
     plan: &Plan,
-    run: u64,
+    run: RunId,
     locked: &mut Vec<Lanes<B>>,
     recorders: &[Recorder],
     next: Beginning,
@@ -194,9 +193,11 @@ fn seated_parts<B: Book>(
     ensures slots { IfOk result (λ parts.
         vec_len parts.slots ≡ length plan.now.facts.instruments) }
     ensures next_recorders { IfOk result (λ parts.
-        parts.recorders.items ≡ new_recorders B.KEEPS_ENTRIES next.run plan.now) }
+        parts.recorders.items
+        ≡ new_recorders B.KEEPS_ENTRIES (run_of plan.now next.run next.start) plan.now) }
     ensures next_collectors { IfOk result (λ parts.
-        parts.collectors.items ≡ new_collectors next.run next.start plan.now) }
+        parts.collectors.items
+        ≡ new_collectors (run_of plan.now next.run next.start) plan.now) }
     ensures seated { OnOk result (seated (provider_of plan.now run) recorders.now ≡ Ok tt) }
     ensures refused { IfErr result (λ fault.
         RefusesFinish (seated (provider_of plan.now run) recorders.now) fault) }

@@ -8,10 +8,11 @@ ghost use Rattle.metric_seat.specs.Seats.{is_recorder_of};
 ghost use Rattle.metric_slot.specs.declared.told.Told.{Told as tellings};
 
 use crate::gate::Gate;
-use crate::governing::spare_from;
+use crate::governing::spare_of_all;
 use crate::held::Inside;
 use crate::provider::Provider;
 use crate::recorder::Recorder;
+use crate::row::Silent;
 use metric_contents::Refusal;
 use metric_facts::Facts;
 use metric_history::Book;
@@ -85,10 +86,10 @@ impl<R: Wait, B: Book, G: Gate> Budgeted for Inside<'_, R, B, G> {
     }
 
     fn spare_left(&self, facts: &Facts) -> Result<u64, Refusal> {
-        let Some(lanes) = self.lanes else {
+        let Some(rack) = self.rack() else {
             return Err(Refusal::Stranger);
         };
-        spare_from(self.rt, self.gate, lanes.all(), facts, 0, facts.spare)
+        spare_of_all(self.rt, &rack, facts, &mut Silent)
     }
 }
 

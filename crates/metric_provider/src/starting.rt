@@ -2,7 +2,8 @@
 ghost use Rattle.std.specs.Prelude.{◌≡◌, ◌<◌, ◌≤◌, ◌+◌, IsTrue, length, map, vec_capacity, vec_len, IfOk, IfErr, OnOk};
 ghost use Rattle.std.specs.List.{range_with_len};
 ghost use Rattle.metric_provider.specs.NewSlots.{AreNewSlots};
-ghost use Rattle.metric_seat.specs.Seats.{new_collector, new_recorder, provider_of};
+ghost use Rattle.metric_provider.specs.Rolling.{new_collectors, new_recorders};
+ghost use Rattle.metric_seat.specs.Seats.{provider_of, run_of};
 
 use crate::collector::Collector;
 use crate::gate::Gate;
@@ -12,15 +13,15 @@ use crate::recorder::Recorder;
 use crate::sharing::{lane_of_each, lanes_for};
 use metric_history::Book;
 use metric_plan::Plan;
+use metric_seat::RunId;
 use metric_slot::Slot;
 use std::alloc::{AllocError, Global};
 use std::sync::Wait;
 
 /// A provider of a certified plan without recordings, since a start in nanoseconds, with a seat for each recorder and
 /// each reader, in order. The seats of the readers have the start, with which that of each instrument is compared under
-/// its lock: no batch tells another one. Seats serve the number of the run that they were made for: give each provider
-/// one of its own, since seats of one run and of plans of the same sizes are told apart by nothing else. Where the
-/// books keep their entries, the seats of the recorders keep slips. The seed of books that hash is made of the start
+/// its lock: no batch tells another one. Seats serve the run that they were made for, by its number, its start and its
+/// plan's fingerprint: give each provider a number of its own. Where the books keep their entries, the seats of the recorders keep slips. The seed of books that hash is made of the start
 /// and the number of the run. When out of memory, the plan and the gate are handed back.
 pub fn start<R: Wait, B: Book, G: Gate>(
     _rt: &R,
@@ -31,13 +32,11 @@ pub fn start<R: Wait, B: Book, G: Gate>(
     gate: G,
 ) -> Result<(Provider<B, G>, Vec<Recorder>, Vec<Collector>), (Plan, G, AllocError)>
     requires { IsTrue plan.is_certified }
-    ensures provider { IfOk result (λ made. made.0 ≡ provider_of plan run) }
+    ensures provider { IfOk result (λ made. made.0 ≡ provider_of plan (run_of plan run start)) }
     ensures recorders { IfOk result (λ made. made.1.items
-        ≡ map (new_recorder B.KEEPS_ENTRIES run (length plan.facts.instruments))
-        (range_with_len 0 (length plan.facts.contents.recorders))) }
+        ≡ new_recorders B.KEEPS_ENTRIES (run_of plan run start) plan) }
     ensures collectors { IfOk result (λ made. made.2.items
-        ≡ map (new_collector run start (length plan.facts.instruments))
-        (range_with_len 0 (length plan.config.readers))) }
+        ≡ new_collectors (run_of plan run start) plan) }
     ensures back { IfErr result (λ refused. (refused.0 ≡ plan) × (refused.1 ≡ gate)) }
 {
     let beginning = Beginning {
@@ -63,13 +62,11 @@ pub fn start_with_lanes<R: Wait, B: Book, G: Gate>(
     lanes: u32,
 ) -> Result<(Provider<B, G>, Vec<Recorder>, Vec<Collector>), (Plan, G, AllocError)>
     requires { IsTrue plan.is_certified }
-    ensures provider { IfOk result (λ made. made.0 ≡ provider_of plan run) }
+    ensures provider { IfOk result (λ made. made.0 ≡ provider_of plan (run_of plan run start)) }
     ensures recorders { IfOk result (λ made. made.1.items
-        ≡ map (new_recorder B.KEEPS_ENTRIES run (length plan.facts.instruments))
-        (range_with_len 0 (length plan.facts.contents.recorders))) }
+        ≡ new_recorders B.KEEPS_ENTRIES (run_of plan run start) plan) }
     ensures collectors { IfOk result (λ made. made.2.items
-        ≡ map (new_collector run start (length plan.facts.instruments))
-        (range_with_len 0 (length plan.config.readers))) }
+        ≡ new_collectors (run_of plan run start) plan) }
     ensures back { IfErr result (λ refused. (refused.0 ≡ plan) × (refused.1 ≡ gate)) }
 {
     let beginning = Beginning {
@@ -95,19 +92,18 @@ fn begin<B: Book, G: Gate>(
     gate: G,
 ) -> Result<(Provider<B, G>, Vec<Recorder>, Vec<Collector>), (Plan, G, AllocError)>
     requires { IsTrue plan.is_certified }
-    ensures provider { IfOk result (λ made. made.0 ≡ provider_of plan beginning.run) }
+    ensures provider { IfOk result (λ made.
+        made.0 ≡ provider_of plan (run_of plan beginning.run beginning.start)) }
     ensures recorders { IfOk result (λ made. made.1.items
-        ≡ map (new_recorder B.KEEPS_ENTRIES beginning.run (length plan.facts.instruments))
-        (range_with_len 0 (length plan.facts.contents.recorders))) }
+        ≡ new_recorders B.KEEPS_ENTRIES (run_of plan beginning.run beginning.start) plan) }
     ensures collectors { IfOk result (λ made. made.2.items
-        ≡ map (new_collector beginning.run beginning.start (length plan.facts.instruments))
-        (range_with_len 0 (length plan.config.readers))) }
+        ≡ new_collectors (run_of plan beginning.run beginning.start) plan) }
     ensures back { IfErr result (λ refused. (refused.0 ≡ plan) × (refused.1 ≡ gate)) }
 {
     match new_parts(alloc, &plan, beginning) {
         Ok((slots, recorders, collectors)) => {
-            let (run, most) = (beginning.run, beginning.most);
-            let provider = Provider::from_slots(plan, run, gate, slots, most);
+            let run = RunId::of(&plan, beginning.run, beginning.start);
+            let provider = Provider::from_slots(plan, run, gate, slots, beginning.most);
             Ok((provider, recorders, collectors))
         }
         Err(error) => Err((plan, gate, error)),
@@ -123,18 +119,17 @@ pub(crate) fn new_parts<B: Book>(
     requires { IsTrue plan.now.is_certified }
     ensures slots { IfOk result (λ made. vec_len made.0 ≡ length plan.now.facts.instruments) }
     ensures recorders { IfOk result (λ made. made.1.items
-        ≡ map (new_recorder B.KEEPS_ENTRIES beginning.run (length plan.now.facts.instruments))
-        (range_with_len 0 (length plan.now.facts.contents.recorders))) }
+        ≡ new_recorders B.KEEPS_ENTRIES (run_of plan.now beginning.run beginning.start) plan.now) }
     ensures collectors { IfOk result (λ made. made.2.items
-        ≡ map (new_collector beginning.run beginning.start (length plan.now.facts.instruments))
-        (range_with_len 0 (length plan.now.config.readers))) }
+        ≡ new_collectors (run_of plan.now beginning.run beginning.start) plan.now) }
 {
     let Beginning { start, run, .. } = beginning;
     let slots = new_slots(alloc, plan, start, seed_of(start, run))?;
     let mut slots = locked(alloc, slots)?;
     add_lanes(alloc, plan, beginning, &mut slots)?;
+    let run = RunId::of(plan, run, start);
     let recorders = new_recorders(alloc, plan, run, B::KEEPS_ENTRIES)?;
-    let collectors = new_collectors(alloc, plan, run, start)?;
+    let collectors = new_collectors(alloc, plan, run)?;
     Ok((slots, recorders, collectors))
 }
 
@@ -241,12 +236,10 @@ fn add_others<B: Book>(
 fn new_recorders(
     alloc: Global,
     plan: &Plan,
-    run: u64,
+    run: RunId,
     keeps: bool,
 ) -> Result<Vec<Recorder>, AllocError>
-    ensures { IfOk result (λ seats. seats.items
-        ≡ map (new_recorder keeps run (length plan.now.facts.instruments))
-        (range_with_len 0 (length plan.now.facts.contents.recorders))) }
+    ensures { IfOk result (λ seats. seats.items ≡ new_recorders keeps run plan.now) }
 {
     let instruments = plan.all_facts().len();
     let count = plan.catalogue().recorders().len() as u32;
@@ -257,22 +250,15 @@ fn new_recorders(
     Ok(seats)
 }
 
-// The seat of each reader, which has seen nothing of a run that started at this time.
-fn new_collectors(
-    alloc: Global,
-    plan: &Plan,
-    run: u64,
-    start: u64,
-) -> Result<Vec<Collector>, AllocError>
-    ensures { IfOk result (λ seats. seats.items
-        ≡ map (new_collector run start (length plan.now.facts.instruments))
-        (range_with_len 0 (length plan.now.config.readers))) }
+// The seat of each reader, which has seen nothing of a run.
+fn new_collectors(alloc: Global, plan: &Plan, run: RunId) -> Result<Vec<Collector>, AllocError>
+    ensures { IfOk result (λ seats. seats.items ≡ new_collectors run plan.now) }
 {
     let instruments = plan.all_facts().len();
     let count = plan.config().readers().len() as u32;
     let mut seats = Vec::new(alloc);
     for number in 0..count {
-        seats.push(Collector::new(alloc, run, start, number, instruments)?)?;
+        seats.push(Collector::new(alloc, run, number, instruments)?)?;
     }
     Ok(seats)
 }

@@ -18,7 +18,7 @@ use Rattle.metric_plan.specs.Plans.{IsPlan, PlanValue}
 use Rattle.metric_seat.specs.KeyRecordings.{declared_key}
 use Rattle.metric_seat.specs.Recordings.{KnowsRecording}
 use Rattle.metric_seat.specs.Recordings.{declared_set}
-use Rattle.metric_seat.specs.Seats.{ProviderValue, RecorderValue, is_recorder_of}
+use Rattle.metric_seat.specs.Seats.{ProviderValue, RecorderValue, is_recorder_of, is_same_run}
 use Rattle.metric_seat.specs.PlanFacts.{allowed_at}
 
 -- what a declared recording is known to be
@@ -78,7 +78,7 @@ seat_parts p seat of =
     let recorders = length p.plan.facts.contents.recorders in
     let long = length seat.told == length p.plan.facts.instruments in
     let parts = and_parts (nat_lt seat.number recorders) long
-    ((and_parts (seat.run == p.run) (nat_lt seat.number recorders && long) of).1) in
+    ((and_parts (is_same_run seat.run p.run) (nat_lt seat.number recorders && long) of).1) in
     record {
       known = ltb-true seat.number recorders parts.0;
       long = eqb-true (length seat.told) (length p.plan.facts.instruments) parts.1;

@@ -21,7 +21,8 @@ use Rattle.metric_seat.specs.declared.keys.Measurement.{Measurement}
 use Rattle.metric_seat.specs.KeyRecordings.{AnswersKey, AreAccepted, AreAdmitted, IsAdmitted, IsRecordable, IsRefusedAfter, IsRefusedUnder, IsUnadmittedAfter, KnowsEach, admitted_key, declared_key, key_of, measurement_of, noted_of_all, told_each, told_of, told_of_all}
 use Rattle.metric_seat.specs.Handing.{HandsOn, Records}
 use Rattle.metric_seat.specs.Recordings.{AnswersSeat, IsToldOf, RefusesRecording, declared_set, told_at, with_recording, with_slip, with_slips}
-use Rattle.metric_seat.specs.Seats.{ProviderValue, RecorderValue, is_recorder_of, nothing_told}
+use Rattle.metric_seat.specs.declared.run_id.RunId.{RunId}
+use Rattle.metric_seat.specs.Seats.{ProviderValue, RecorderValue, is_recorder_of, nothing_told, is_same_run}
 use Rattle.metric_slot.specs.declared.told.Told.{Told}
 use Rattle.metric_slot.specs.Tellings.{told_more}
 
@@ -62,9 +63,9 @@ own_same : (p : ProviderValue) (later first : RecorderValue) → IsSameSeat late
 own_same p later first same =
     let recorders = length p.plan.facts.contents.recorders in
     let instruments = length p.plan.facts.instruments in
-    ap (λ (n : ℕ). (n == p.run) && (nat_lt later.number recorders && (length later.told == instruments))) same.run
-    ∙ ap (λ (n : ℕ). (first.run == p.run) && (nat_lt n recorders && (length later.told == instruments))) same.number
-    ∙ ap (λ (n : ℕ). (first.run == p.run) && (nat_lt first.number recorders && (n == instruments))) same.long
+    ap (λ (r : RunId). is_same_run r p.run && (nat_lt later.number recorders && (length later.told == instruments))) same.run
+    ∙ ap (λ (n : ℕ). is_same_run first.run p.run && (nat_lt n recorders && (length later.told == instruments))) same.number
+    ∙ ap (λ (n : ℕ). is_same_run first.run p.run && (nat_lt first.number recorders && (n == instruments))) same.long
 
 admitted_same : (p : ProviderValue) (later first : RecorderValue) (i : ℕ) (set : List ℕ) (value : ℤ) → IsSameSeat later first → admitted_key p later i set value ≡ admitted_key p first i set value
 admitted_same p later first i set value same =

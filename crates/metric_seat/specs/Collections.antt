@@ -44,7 +44,7 @@ abbrev pub AnswersCollector : Result Facts Refusal → CollectorValue → ℕ �
 AnswersCollector (Err first) seat instrument now (Err refusal) = refusal ≡ first
 AnswersCollector (Err first) seat instrument now (Ok batch) = ⊥
 AnswersCollector (Ok own) seat instrument now (Ok batch) =
-    IsNextBatch own seat.start seat.number (seen_at seat instrument) now batch
+    IsNextBatch own seat.run.start seat.number (seen_at seat instrument) now batch
 AnswersCollector (Ok own) seat instrument now (Err refusal) = RefusesCollection refusal
 
 -- the seat that has seen a batch of an instrument

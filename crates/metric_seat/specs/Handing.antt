@@ -9,9 +9,9 @@ use Rattle.metric_slot.specs.declared.seen.Seen.{Seen}
 use Rattle.metric_slot.specs.declared.told.Told.{Told}
 use Rattle.metric_seat.specs.declared.fault.SetsFault.{SetsFault}
 use Rattle.metric_seat.specs.declared.keys.Measurement.{Measurement}
-use Rattle.metric_seat.specs.KeyRecordings.{measurement_of}
+use Rattle.metric_seat.specs.KeyRecordings.{AreFirstAdmitted, measurement_of}
 use Rattle.metric_seat.specs.Recordings.{RefusesSlip, told_at}
-use Rattle.metric_seat.specs.Seats.{CollectorValue, RecorderValue, seen_at}
+use Rattle.metric_seat.specs.Seats.{CollectorValue, ProviderValue, RecorderValue, seen_at}
 
 -- what recordings in a row come to: the instrument before and after them, the facts and what the
 -- recorder was told, which are brought, the recorder's number, the recordings, and their answer
@@ -23,7 +23,7 @@ Records H = H → H → Facts → Told → ℕ → List Measurement → Result (
 abbrev pub Collects : Type 0 → Type 1
 Collects H = H → H → Facts → ℕ → Seen → ℕ → ℕ → Result Batch Refusal → Type 0
 
--- # handed on (profile) [HandsOn, Hands, HandsOne, HandsReading]
+-- # handed on (profile) [HandsOn, Hands, HandsOne, HandsAdmitted, HandsReading]
 -- What holds the instrument was called with these recordings, for the seat's recorder, with the
 -- plan's facts and what the seat was told; of a refused slip nothing was. The same of a collection.
 abbrev pub HandsOn : {H : Type 0} → Records H → PlanValue → RecorderValue → ℕ → H → H
@@ -68,9 +68,17 @@ HandsOne {H} keeps records (Ok set) plan seat instrument old new value result =
     Hands keeps records plan seat instrument old new (measurement_of set value ∷ [])
     (one_answer result)
 
+-- Of a list those were handed on that the seat may make, up to the first that it may not.
+pub record HandsAdmitted {H : Type 0} (keeps : Bool) (records : Records H) (p : ProviderValue)
+    (seat : RecorderValue) (instrument : ℕ) (old new : H) (all : List Measurement) : Type 0 where
+  pub some : List Measurement
+  pub admitted : AreFirstAdmitted p seat instrument all some
+  pub made : Result (Unit {0}) SetsFault
+  pub handed : HandsAny keeps records p.plan seat instrument old new some made
+
 -- a collection of such an instrument was handed on, if the seat may make it
 abbrev pub HandsReading : {H : Type 0} → Collects H → Result Facts Refusal → CollectorValue → ℕ
     → H → H → ℕ → Result Batch Refusal → Type 0
 HandsReading {H} collects (Err first) seat instrument old new now result = new ≡ old
 HandsReading {H} collects (Ok own) seat instrument old new now result =
-    collects old new own seat.start (seen_at seat instrument) seat.number now result
+    collects old new own seat.run.start (seen_at seat instrument) seat.number now result

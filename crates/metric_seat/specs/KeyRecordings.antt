@@ -1,5 +1,5 @@
 -- What recordings of set keys are answered.
-use Rattle.std.specs.Prelude.{◌≡◌, ◌<◌, ℕ, ℤ, Bool, true, All, List, [], ◌∷◌, Result, Ok, Err, Some}
+use Rattle.std.specs.Prelude.{◌≡◌, ◌⊎◌, ◌<◌, ℕ, ℤ, Bool, true, All, List, [], ◌∷◌, Result, Ok, Err, Some}
 use Rattle.std.specs.Prelude.{length, map, slice_get, take}
 use Rattle.std.specs.Option.{option_map_or}
 use Rattle.metric_base.specs.Steps.{◌>>=◌, require, require_some}
@@ -116,6 +116,14 @@ pub record IsUnadmittedAfter (p : ProviderValue) (seat : RecorderValue) (instrum
   pub one : Measurement
   pub found : slice_get all fault.place ≡ Some one
   pub refused : admitted_key p seat instrument one.set one.value ≡ Err fault.refusal
+
+-- the seat may make these of a list, which are all of it, or those before one that it may not make
+abbrev pub AreFirstAdmitted : ProviderValue → RecorderValue → ℕ → List Measurement
+    → List Measurement → Type 0
+AreFirstAdmitted p seat instrument all some =
+    ((some ≡ all) × AreAdmitted p seat instrument all)
+    ⊎ ((fault : SetsFault) × (some ≡ take fault.place all)
+    × IsUnadmittedAfter p seat instrument all fault)
 
 -- the plan knows each of these
 abbrev pub KnowsEach : PlanValue → ℕ → ℕ → List Measurement → Type 0

@@ -13,7 +13,7 @@ use Rattle.metric_facts.specs.declared.facts.Facts.{Facts}
 use Rattle.metric_facts.specs.Facts.{EncodesAllowedSets, is_allowed_set, is_delta_reader}
 use Rattle.metric_plan.specs.PlanFacts.{plan_facts_at}
 use Rattle.metric_plan.specs.Plans.{IsPlan, PlanValue}
-use Rattle.metric_seat.specs.Seats.{CollectorValue, ProviderValue, is_collector_of}
+use Rattle.metric_seat.specs.Seats.{CollectorValue, ProviderValue, is_collector_of, is_same_run}
 
 -- there is a budget for each recorder
 pub budgets_each : (plan : PlanValue) (i : ℕ) (own : Facts) → IsPlan plan
@@ -52,5 +52,5 @@ reader_known p seat of =
     let readers = length p.plan.config.readers in
     let long = length seat.seen == length p.plan.facts.instruments in
     let parts = and_parts (nat_lt seat.number readers) long
-    ((and_parts (seat.run == p.run) (nat_lt seat.number readers && long) of).1) in
+    ((and_parts (is_same_run seat.run p.run) (nat_lt seat.number readers && long) of).1) in
     ltb-true seat.number readers parts.0

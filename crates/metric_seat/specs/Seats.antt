@@ -2,33 +2,41 @@
 use Rattle.std.specs.Prelude.{ℕ, Bool, ◌&&◌, List, [], length, nat_lt, replicate, slice_index_or}
 use Rattle.std.specs.Prelude.{◌==◌, if◌then◌else◌}
 use Rattle.metric_history.specs.declared.slip.Slip.{Slip}
-use Rattle.metric_plan.specs.Plans.{PlanValue}
+use Rattle.metric_plan.specs.Plans.{PlanValue, print_of}
+use Rattle.metric_seat.specs.declared.run_id.RunId.{RunId}
 use Rattle.metric_slot.specs.declared.seen.Seen.{Seen}
 use Rattle.metric_slot.specs.declared.told.Told.{Told}
 use Rattle.metric_slot.specs.Sightings.{nothing_seen}
 
--- the plan, and the number of the run
+-- the plan, and the run
 pub record ProviderValue : Type 0 where
   pub plan : PlanValue
-  pub run : ℕ
+  pub run : RunId
 
--- the number of the run, that of the recorder, what it was told of each instrument, and its slips
+-- the run, the number of the recorder, what it was told of each instrument, and its slips
 -- of each, where its book keeps entries
 pub record RecorderValue : Type 0 where
-  pub run : ℕ
+  pub run : RunId
   pub number : ℕ
   pub told : List Told
   pub slips : List (List Slip)
 
--- the number of the run and its start, the number of the reader, and what it has seen of each
--- instrument
+-- the run, the number of the reader, and what it has seen of each instrument
 pub record CollectorValue : Type 0 where
-  pub run : ℕ
-  pub start : ℕ
+  pub run : RunId
   pub number : ℕ
   pub seen : List Seen
 
-abbrev pub provider_of : PlanValue → ℕ → ProviderValue
+-- the run of a plan that has this number and started then
+abbrev pub run_of : PlanValue → ℕ → ℕ → RunId
+run_of plan number start = record { plan = print_of plan; number = number; start = start }
+
+-- # same run (profile)
+-- Of one number, of one start, and of plans with one fingerprint.
+abbrev pub is_same_run : RunId → RunId → Bool
+is_same_run a b = (a.number == b.number) && ((a.start == b.start) && (a.plan == b.plan))
+
+abbrev pub provider_of : PlanValue → RunId → ProviderValue
 provider_of plan run = record { plan = plan; run = run }
 
 -- what a recorder without recordings was told
@@ -41,7 +49,7 @@ no_slips keeps instruments = if keeps then replicate instruments [] else []
 
 -- the seat of a recorder that was told of nothing, of so many
 -- instruments, and whether it keeps slips
-abbrev pub new_recorder : Bool → ℕ → ℕ → ℕ → RecorderValue
+abbrev pub new_recorder : Bool → RunId → ℕ → ℕ → RecorderValue
 new_recorder keeps run instruments number = record {
   run = run;
   number = number;
@@ -53,29 +61,28 @@ new_recorder keeps run instruments number = record {
 abbrev pub slips_at : RecorderValue → ℕ → List Slip
 slips_at seat instrument = slice_index_or seat.slips instrument []
 
--- the seat of a reader that has seen nothing of a run, which started then
-abbrev pub new_collector : ℕ → ℕ → ℕ → ℕ → CollectorValue
-new_collector run start instruments number = record {
+-- the seat of a reader that has seen nothing of a run
+abbrev pub new_collector : RunId → ℕ → ℕ → CollectorValue
+new_collector run instruments number = record {
   run = run;
-  start = start;
   number = number;
-  seen = replicate instruments (nothing_seen start);
+  seen = replicate instruments (nothing_seen run.start);
 }
 
 -- what it has seen of the instrument of a number: nothing of one that there is not
 abbrev pub seen_at : CollectorValue → ℕ → Seen
-seen_at seat instrument = slice_index_or seat.seen instrument (nothing_seen seat.start)
+seen_at seat instrument = slice_index_or seat.seen instrument (nothing_seen seat.run.start)
 
 -- # seat of a provider (profile) [is_recorder_of, is_collector_of]
 -- It is of the same run, of a recorder (a reader) of the plan, and made for as many instruments;
 -- else it is a stranger.
 abbrev pub is_recorder_of : ProviderValue → RecorderValue → Bool
 is_recorder_of p seat =
-    (seat.run == p.run) && (nat_lt seat.number (length p.plan.facts.contents.recorders)
+    is_same_run seat.run p.run && (nat_lt seat.number (length p.plan.facts.contents.recorders)
     && (length seat.told == length p.plan.facts.instruments))
 
 -- the same of a reader's seat
 abbrev pub is_collector_of : ProviderValue → CollectorValue → Bool
 is_collector_of p seat =
-    (seat.run == p.run) && (nat_lt seat.number (length p.plan.config.readers)
+    is_same_run seat.run p.run && (nat_lt seat.number (length p.plan.config.readers)
     && (length seat.seen == length p.plan.facts.instruments))

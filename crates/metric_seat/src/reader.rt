@@ -7,6 +7,7 @@ ghost use Rattle.metric_seat.specs.Seats.{is_collector_of, new_collector, provid
 ghost use Rattle.metric_slot.specs.declared.seen.Seen.{Seen as sightings};
 
 use crate::held::Collected;
+use crate::run_id::RunId;
 use metric_contents::Refusal;
 use metric_history::Batch;
 use metric_plan::Plan;
@@ -21,8 +22,7 @@ use std::marker::Model;
 /// A call that takes a plan and a run takes those of the instrument that is collected.
 #[derive(Drop)]
 pub struct ReaderSeat {
-    run: u64,
-    start: u64,
+    run: RunId,
     number: u32,
     seen: Vec<Seen>,
 }
@@ -34,31 +34,24 @@ impl Model for ReaderSeat {
 
     ghost view = { λ c. record {
       run = c.run;
-      start = c.start;
       number = c.number;
       seen = c.seen.items;
     } };
 }
 
 impl ReaderSeat {
-    /// The seat of the reader of this number in the run of this number, which started at a time in nanoseconds, for so
-    /// many instruments; it has seen nothing. Fails only when out of memory.
+    /// The seat of the reader of this number in a run, for so many instruments; it has seen nothing. Fails only when out
+    /// of memory.
     pub fn new(
         alloc: Global,
-        run: u64,
-        start: u64,
+        run: RunId,
         number: u32,
         instruments: usize,
     ) -> Result<ReaderSeat, AllocError>
-        ensures { IfOk result (λ seat. seat ≡ new_collector run start instruments number) }
+        ensures { IfOk result (λ seat. seat ≡ new_collector run instruments number) }
     {
-        let seen = vec![in alloc; Seen::nothing(start); instruments]?;
-        Ok(ReaderSeat {
-            run,
-            start,
-            number,
-            seen,
-        })
+        let seen = vec![in alloc; Seen::nothing(run.start); instruments]?;
+        Ok(ReaderSeat { run, number, seen })
     }
 
     /// The number of the reader.
@@ -83,7 +76,7 @@ impl ReaderSeat {
     ///
     /// # Errors
     ///
-    /// `Stranger` where the run is of another number, the seat was made for another number of instruments, or the plan
+    /// `Stranger` where the run is another, the seat was made for another number of instruments, or the plan
     /// has no reader of its number; `UnknownInstrument`. Then `Stranger` where what is found is not what the seat has
     /// seen, and `Memory`.
     pub fn collect<H: Collected>(
@@ -91,7 +84,7 @@ impl ReaderSeat {
         held: &mut H,
         alloc: Global,
         plan: &Plan,
-        run: u64,
+        run: RunId,
         instrument: u32,
         now: u64,
     ) -> Result<Batch, Refusal>
@@ -110,17 +103,17 @@ impl ReaderSeat {
             return Err(Refusal::UnknownInstrument);
         }
         let facts = plan.facts(instrument);
-        let (start, number) = (self.start, self.number);
+        let (start, number) = (self.run.start, self.number);
         let seen = &mut self.seen[at];
         held.collect(alloc, facts, start, seen, number, now)
     }
 
-    /// Whether the seat is of this run of the plan: of its number, made for as many instruments, and of one of its
+    /// Whether the seat is of this run of the plan, made for as many instruments, and of one of its
     /// readers.
-    pub fn is_of(&self, plan: &Plan, run: u64) -> bool
+    pub fn is_of(&self, plan: &Plan, run: RunId) -> bool
         ensures { result ≡ is_collector_of (provider_of plan.now run) self.now }
     {
-        self.run == run
+        self.run.is(run)
             && (self.number as usize) < plan.config().readers().len()
             && self.seen.len() == plan.all_facts().len()
     }

@@ -3,7 +3,7 @@ ghost use Rattle.std.specs.Prelude.{◌≡◌, ◌<◌, ◌-◌, Bool, true, len
 ghost use Rattle.metric_contents.specs.Attributes.{given_by};
 ghost use Rattle.metric_contents.specs.Encoding.{encode_of};
 ghost use Rattle.metric_core.specs.CellAnswers.{GainsEntry, entry_of, with_entry};
-ghost use Rattle.metric_seat.specs.Handing.{Hands, HandsAny, HandsOn, HandsOne};
+ghost use Rattle.metric_seat.specs.Handing.{Hands, HandsAdmitted, HandsAny, HandsOn, HandsOne};
 ghost use Rattle.metric_seat.specs.KeyRecordings.{AreAccepted, AreAdmitted, IsRefusedAfter, IsUnadmittedAfter, admitted_key, noted_of_all, slip_of_one, told_of_all};
 ghost use Rattle.metric_seat.specs.OneSlot.{AnswersSlot};
 ghost use Rattle.metric_seat.specs.Recordings.{AnswersSeat, IsToldOf, KnowsRecording, RefusesSlip, SeatSpares, admitted, told_at, with_recording, with_slips};
@@ -14,6 +14,7 @@ use crate::fault::SetsFault;
 use crate::held::Held;
 use crate::keys::{Measurement, recording_of};
 use crate::notes::{Notes, no_notes};
+use crate::run_id::RunId;
 use metric_contents::{Attr, Refusal, SetKey};
 use metric_facts::laws::attributes_name_allowed_sets;
 use metric_history::{Book, Slip};
@@ -32,7 +33,7 @@ const ROOM_BEHIND: usize = 8;
 /// A call that takes a plan and a run takes those of the instrument that is recorded on.
 #[derive(Drop)]
 pub struct RecorderSeat {
-    run: u64,
+    run: RunId,
     number: u32,
     told: Vec<Told>,
     notes: Vec<Notes>,
@@ -52,11 +53,11 @@ impl Model for RecorderSeat {
 }
 
 impl RecorderSeat {
-    /// The seat of the recorder of this number in the run of this number, which was told of nothing, for so many
-    /// instruments, and whether it keeps slips. Fails only when out of memory.
+    /// The seat of the recorder of this number in a run, which was told of nothing, for so many instruments, and whether
+    /// it keeps slips. Fails only when out of memory.
     pub fn new(
         alloc: Global,
-        run: u64,
+        run: RunId,
         number: u32,
         instruments: usize,
         keeps: bool,
@@ -98,7 +99,7 @@ impl RecorderSeat {
         &mut self,
         held: &mut H,
         plan: &Plan,
-        run: u64,
+        run: RunId,
         instrument: u32,
         all: &[Measurement],
     ) -> Result<(), SetsFault>
@@ -112,6 +113,9 @@ impl RecorderSeat {
             IfErr result (IsRefusedAfter spares p self.old instrument all.now) }
         ensures told_before { IfErr result (λ fault. let made = take fault.place all.now in
             self.new ≡ noted_of_all B.KEEPS_ENTRIES plan.now self.old instrument made) }
+        ensures handed { let p = provider_of plan.now run in
+            HandsAdmitted B.KEEPS_ENTRIES H.records p self.old instrument
+            held.old held.new all.now }
     {
         let admitted = self.admit_each(plan, run, instrument, all);
         let count = match admitted {
@@ -122,17 +126,78 @@ impl RecorderSeat {
         admitted
     }
 
-    /// Makes a recording that the seat may make, as a list of one.
+    /// Makes a recording (Metrics API, synchronous instruments) in one call of what holds its instrument, and tells the
+    /// seat of it. Where the book keeps its entries, the seat keeps a slip of it.
     ///
     /// # Errors
     ///
-    /// Those of [`RecorderSeat::record_each`].
+    /// Those of [`RecorderSeat::admit`], then those of [`RecorderSeat::record_each`].
     #[inline(always)]
-    pub fn record_one<B: Book, H: Held<B>>(
+    pub fn record<B: Book, H: Held<B>>(
         &mut self,
         held: &mut H,
         plan: &Plan,
-        run: u64,
+        run: RunId,
+        instrument: u32,
+        attrs: &[Attr<'_>],
+        value: &i64,
+    ) -> Result<(), Refusal>
+        ensures answer { let given = map given_by attrs.now in let p = provider_of plan.now run in
+            let admission = admitted p self.old instrument given value.now in
+            let spares = SeatSpares B.KEEPS_ENTRIES B.spares_memory in
+            AnswersSeat spares admission plan.now self.old instrument result }
+        ensures told { let given = map given_by attrs.now in let p = provider_of plan.now run in
+            let admission = admitted p self.old instrument given value.now in OnOk result (
+            IsToldOf B.KEEPS_ENTRIES admission plan.now self.old self.new instrument value.now) }
+        ensures err { OnErr result (self.new ≡ self.old) }
+        ensures handed { let given = map given_by attrs.now in let p = provider_of plan.now run in
+            let admission = admitted p self.old instrument given value.now in
+            HandsOne B.KEEPS_ENTRIES H.records admission plan.now self.old instrument
+            held.old held.new value.now result }
+    {
+        let set = self.admit(plan, run, instrument, attrs, value)?;
+        self.record_one(held, plan, run, instrument, set, value)
+    }
+
+    /// The same of a set key that a caller brings back.
+    ///
+    /// # Errors
+    ///
+    /// Those of [`RecorderSeat::admit_key`], then those of [`RecorderSeat::record_each`].
+    #[inline(always)]
+    pub fn record_set<B: Book, H: Held<B>>(
+        &mut self,
+        held: &mut H,
+        plan: &Plan,
+        run: RunId,
+        instrument: u32,
+        set: SetKey,
+        value: &i64,
+    ) -> Result<(), Refusal>
+        ensures answer { let p = provider_of plan.now run in
+            let admission = admitted_key p self.old instrument set value.now in
+            let spares = SeatSpares B.KEEPS_ENTRIES B.spares_memory in
+            AnswersSeat spares admission plan.now self.old instrument result }
+        ensures told { let p = provider_of plan.now run in
+            let admission = admitted_key p self.old instrument set value.now in OnOk result (
+            IsToldOf B.KEEPS_ENTRIES admission plan.now self.old self.new instrument value.now) }
+        ensures err { OnErr result (self.new ≡ self.old) }
+        ensures handed { let p = provider_of plan.now run in
+            let admission = admitted_key p self.old instrument set value.now in
+            HandsOne B.KEEPS_ENTRIES H.records admission plan.now self.old instrument
+            held.old held.new value.now result }
+    {
+        let set = self.admit_key(plan, run, instrument, set, value)?;
+        self.record_one(held, plan, run, instrument, set, value)
+    }
+
+    // Makes a recording that the seat may make, as a list of one.
+    #[inline(always)]
+    fn record_one<B: Book, H: Held<B>>(
+        &mut self,
+        held: &mut H,
+        plan: &Plan,
+        run: RunId,
         instrument: u32,
         set: SetKey,
         value: &i64,
@@ -167,7 +232,7 @@ impl RecorderSeat {
         &mut self,
         held: &mut H,
         plan: &Plan,
-        run: u64,
+        run: RunId,
         instrument: u32,
         all: &[Measurement],
     ) -> Result<(), SetsFault>
@@ -198,7 +263,7 @@ impl RecorderSeat {
         &mut self,
         held: &mut H,
         plan: &Plan,
-        run: u64,
+        run: RunId,
         instrument: u32,
         all: &[Measurement],
     ) -> Result<(), SetsFault>
@@ -234,7 +299,7 @@ impl RecorderSeat {
         &mut self,
         held: &mut H,
         plan: &Plan,
-        run: u64,
+        run: RunId,
         instrument: u32,
         all: &[Measurement],
     ) -> Result<(), SetsFault>
@@ -352,12 +417,12 @@ impl RecorderSeat {
             .unwrap_or(nothing)
     }
 
-    /// Whether the seat is of this run of the plan: of its number, made for as many instruments, and of one of its
+    /// Whether the seat is of this run of the plan, made for as many instruments, and of one of its
     /// recorders.
-    pub fn is_of(&self, plan: &Plan, run: u64) -> bool
+    pub fn is_of(&self, plan: &Plan, run: RunId) -> bool
         ensures { result ≡ is_recorder_of (provider_of plan.now run) self.now }
     {
-        self.run == run
+        self.run.is(run)
             && (self.number as usize) < plan.catalogue().recorders().len()
             && self.told.len() == plan.all_facts().len()
     }
@@ -378,14 +443,14 @@ impl RecorderSeat {
     }
 
     /// The set key of a recording of this value on the instrument of this number that the seat may make, or the first
-    /// refusal: `Stranger` where the run is of another number, the seat was made for another number of instruments, or
-    /// the plan has no recorder of its number; `UnknownInstrument`, those of the attributes in their order, the last of
+    /// refusal: `Stranger` where the run is another, the seat was made for another number of instruments, or the plan has
+    /// no recorder of its number; `UnknownInstrument`, those of the attributes in their order, the last of
     /// them `Combination` where they are none of the instrument's allowed combinations, and `ValueRange`. Allocates no
     /// memory.
     pub fn admit(
         &self,
         plan: &Plan,
-        run: u64,
+        run: RunId,
         instrument: u32,
         attrs: &[Attr<'_>],
         value: &i64,
@@ -413,7 +478,7 @@ impl RecorderSeat {
     pub fn admit_key(
         &self,
         plan: &Plan,
-        run: u64,
+        run: RunId,
         instrument: u32,
         set: SetKey,
         value: &i64,
@@ -437,7 +502,7 @@ impl RecorderSeat {
     pub fn admit_each(
         &self,
         plan: &Plan,
-        run: u64,
+        run: RunId,
         instrument: u32,
         all: &[Measurement],
     ) -> Result<(), SetsFault>

@@ -5,7 +5,7 @@ use crate::asserted::OrFail;
 use crate::page::Page;
 use crate::samples::{MAIN, ROUTES};
 use metric_contents::{Attr, SetKey};
-use metric_hosted::{Hosted, Measurement, ReaderSeat, RecorderSeat};
+use metric_hosted::{Hosted, Measurement, ReaderSeat, RecorderSeat, RunId};
 use metric_plan::Plan;
 use metric_sdk::certified_plan;
 use std::alloc::Global;
@@ -108,11 +108,12 @@ fn held_of<'a, R: Abort>(rt: &R, alloc: Global, plan: &'a Plan, run: u64) -> Hel
     if instruments == 0 {
         panic!(rt; "no instrument");
     }
+    let run = RunId::of(plan, run, 7);
     Held {
         plan,
         instrument: Hosted::new(alloc, plan, 0, 7, 1).or_fail(rt),
         recorder: RecorderSeat::new(alloc, run, 0, instruments, false).or_fail(rt),
-        reader: ReaderSeat::new(alloc, run, 7, 0, instruments).or_fail(rt),
+        reader: ReaderSeat::new(alloc, run, 0, instruments).or_fail(rt),
     }
 }
 

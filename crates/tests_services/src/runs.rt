@@ -3,7 +3,7 @@ use crate::agreement::script_of;
 use crate::asserted::OrFail;
 use crate::page::Page;
 use crate::samples::{BOTH, HITS, MAIN, PAIR, SPARED};
-use crate::seats::{BookSeats, seated, seats_of};
+use crate::seats::{BookSeats, seated, seats_in_lanes, seats_of};
 use metric_audit::Audited;
 use metric_contents::Refusal;
 use metric_history::Book;
@@ -29,6 +29,8 @@ enum Act {
     Readers,
     // The last reader's last collection, at 30.
     Last,
+    // What is left to each recorder on the first instrument, and of its spare.
+    Left,
     // The seats of these recorders are kept. Of another provider, of the run of a number if there is one, the seat of a
     // recorder of this number stands after them.
     Keep(&'static [u32]),
@@ -390,6 +392,13 @@ fn tell_last<R: Abort + Wait, B: Book>(page: &mut Page<'_, R>, seats: &mut BookS
     }
 }
 
+fn tell_left<R: Abort + Wait, B: Book>(page: &mut Page<'_, R>, seats: &BookSeats<B>) {
+    for seat in &seats.recorders {
+        page.tell((seat.number(), seat.room(page.rt, &seats.provider, 0)));
+    }
+    page.tell(seats.provider.spare_left(page.rt, 0));
+}
+
 fn tell_ask<R: Abort + Wait, B: Book>(
     page: &mut Page<'_, R>,
     seats: &BookSeats<B>,
@@ -452,6 +461,7 @@ fn do_act<R: Abort + Wait, B: Book>(
         Act::Seen => tell_readers(page, seats, false),
         Act::Readers => tell_readers(page, seats, true),
         Act::Last => tell_last(page, seats),
+        Act::Left => tell_left(page, seats),
         Act::Keep(numbers) => keep(rt, alloc, &mut seats.recorders, numbers),
         Act::Add(Some(run), number) => {
             let stranger = stranger::<R, B>(rt, alloc, run, number);
@@ -533,8 +543,19 @@ fn end<R: Abort + Wait, B: Book>(
 }
 
 fn live<R: Abort + Wait, B: Book>(page: &mut Page<'_, R>, files: (&str, &str, u64), acts: &[Act]) {
+    live_in_lanes::<R, B>(page, files, 1, acts)
+}
+
+// The same, where an instrument has so many lanes at most.
+fn live_in_lanes<R: Abort + Wait, B: Book>(
+    page: &mut Page<'_, R>,
+    files: (&str, &str, u64),
+    lanes: u32,
+    acts: &[Act],
+) {
     let (catalogue, config, since) = files;
-    let mut seats: BookSeats<B> = seats_of(page.rt, page.alloc, catalogue, config, since, 1);
+    let (rt, alloc) = (page.rt, page.alloc);
+    let mut seats: BookSeats<B> = seats_in_lanes(rt, alloc, catalogue, config, since, lanes);
     let mut aside = Vec::new(page.alloc);
     for next in acts {
         match next {
@@ -625,6 +646,125 @@ fn a_provider_goes_on_after_the_seats_of_another(rt: HostRuntime) {
             let mut page = Page::new(&rt, rt.alloc());
             live::<_, Marked>(&mut page, (UNLIKE, MAIN, 7), &acts);
             let wanted = [BEFORE, *refused, THEREAFTER].concat(rt.alloc());
+            page.assert(wanted.or_fail(&rt).as_str());
+        }
+    }
+}
+
+// A counter of six recorders with a spare: a lane for each, where so many may be.
+const SIX: &str = "format = 2
+[[meter]]
+name = 'm'
+instrument = [{ name = 'A', kind = 'counter', range = [0, 9], spare = 10 }]
+[[recorder]]
+name = 'a'
+budget = [{ instrument = 0, amount = 2 }]
+[[recorder]]
+name = 'b'
+budget = [{ instrument = 0, amount = 2 }]
+[[recorder]]
+name = 'c'
+budget = [{ instrument = 0, amount = 2 }]
+[[recorder]]
+name = 'd'
+budget = [{ instrument = 0, amount = 2 }]
+[[recorder]]
+name = 'e'
+budget = [{ instrument = 0, amount = 2 }]
+[[recorder]]
+name = 'f'
+budget = [{ instrument = 0, amount = 2 }]
+";
+
+const EACH: &str = "record 0 0 1
+record 1 0 2
+record 2 0 3
+record 3 0 4
+record 4 0 5
+record 5 0 6
+collect 0 0 10
+";
+
+// Each records again, and then nobody.
+const AGAIN: &str = "record 5 0 1
+record 4 0 1
+record 3 0 1
+record 2 0 1
+record 1 0 1
+record 0 0 1
+collect 0 0 20
+close 0
+record 0 0 1
+record 1 0 1
+record 2 0 1
+record 3 0 1
+record 4 0 1
+record 5 0 1
+";
+
+// What is told before an end is refused, and after it.
+const BY_EACH: &str = "accepted
+accepted
+accepted
+accepted
+accepted
+accepted
+0 0, 0 to 6, 7 to 10: stream 0 [0 0] 21
+granted
+granted
+14 NoSpare
+(0, Ok(1))
+(1, Ok(1))
+(2, Ok(1))
+(3, Ok(5))
+(4, Ok(1))
+(5, Ok(4))
+Ok(3)
+";
+
+const BY_EACH_AGAIN: &str = "accepted
+accepted
+accepted
+accepted
+accepted
+accepted
+0 0, 0 to 12, 7 to 20: stream 0 [0 0] 27
+done
+8 Closed
+8 Closed
+8 Closed
+8 Closed
+8 Closed
+8 Closed
+([Total { count: 12, sum: 27 }], 1, 1)
+";
+
+// The seats of another run of the same number, in which each recorded less, do not end this one, and a seat less neither.
+#[test]
+fn each_lane_is_asked_and_stays_in_its_place(rt: HostRuntime) {
+    for (count, refused) in [(6, "3 AuditMismatch\n6\n"), (5, "1 RecorderMissing\n5\n")] {
+        for (lanes, end) in [
+            (1, Act::Finish),
+            (2, Act::Finish),
+            (6, Act::Finish),
+            (64, Act::RollOver(100, 3)),
+            (2, Act::RollOver(100, 3)),
+        ] {
+            let acts = [
+                Act::Script(EACH),
+                Act::Ask(3, 0, 4),
+                Act::Ask(5, 0, 3),
+                Act::Ask(0, 0, 4),
+                Act::Left,
+                Act::Bring(1, "", count),
+                end,
+                Act::Back,
+                Act::Script(AGAIN),
+                Act::Finish,
+            ];
+            let mut page = Page::new(&rt, rt.alloc());
+            live_in_lanes::<_, Marked>(&mut page, (SIX, MAIN, 7), lanes, &acts);
+            let wanted = [BY_EACH, refused, BY_EACH_AGAIN].concat(rt.alloc());
             page.assert(wanted.or_fail(&rt).as_str());
         }
     }

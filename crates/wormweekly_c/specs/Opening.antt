@@ -6,7 +6,8 @@ use Rattle.std.specs.Option.{is_some}
 use Rattle.metric_core.specs.Cells.{CellStands, new_cell}
 use Rattle.metric_marked.specs.Marks.{StandsMarked}
 use Rattle.metric_plan.specs.Plans.{PlanValue}
-use Rattle.metric_seat.specs.Seats.{new_collector, new_recorder}
+use Rattle.metric_seat.specs.Seats.{new_collector, new_recorder, run_of}
+use Rattle.metric_seat.specs.declared.run_id.RunId.{RunId}
 use Rattle.metric_setup.specs.Setups.{IsFirstFault}
 use Rattle.metric_setup.specs.declared.fault.SetupFault.{SetupFault}
 use Rattle.metric_setup.specs.declared.fault.SetupFault.TheVariants.{Memory}
@@ -43,7 +44,7 @@ IsOpenCode code = (code ≡ 0) ⊎ ((code ≡ 102) ⊎ (code ≡ 11))
 -- The instrument of this number, without recordings since a start, in a run.
 pub record IsNewInstrument (plan : PlanValue) (start run number : ℕ) (h : HostedValue)
     : Type 0 where
-  pub own_run : h.run ≡ run
+  pub own_run : h.run ≡ run_of plan run start
   pub facts : slice_get plan.facts.instruments number ≡ Some h.cell.facts
   pub new : h.cell ≡ new_cell h.cell.facts start h.cell.book
   pub stands : CellStands StandsMarked h.cell []
@@ -60,7 +61,7 @@ pub record AreNewInstruments (plan : PlanValue) (start run : ℕ) (all : List (O
       → HoldsNew plan start run number one
 
 -- the seat of a recorder that was told of nothing
-abbrev pub new_recorder_of : PlanValue → ℕ → ℕ → Option Held
+abbrev pub new_recorder_of : PlanValue → RunId → ℕ → Option Held
 new_recorder_of plan run number =
     Some (Recorder (record {
       plan = plan;
@@ -68,22 +69,22 @@ new_recorder_of plan run number =
     }))
 
 -- one of each that the plan declares, in order
-abbrev pub new_recorders : PlanValue → ℕ → List (Option Held)
+abbrev pub new_recorders : PlanValue → RunId → List (Option Held)
 new_recorders plan run =
     map (new_recorder_of plan run) (range_with_len 0 (length plan.facts.contents.recorders))
 
--- the seat of a reader that has seen nothing of a run, which started then
-abbrev pub new_reader_of : PlanValue → ℕ → ℕ → ℕ → Option Held
-new_reader_of plan start run number =
+-- the seat of a reader that has seen nothing of a run
+abbrev pub new_reader_of : PlanValue → RunId → ℕ → Option Held
+new_reader_of plan run number =
     Some (Reader (record {
       plan = plan;
-      seat = new_collector run start (length plan.facts.instruments) number;
+      seat = new_collector run (length plan.facts.instruments) number;
       last = None;
     }))
 
-abbrev pub new_readers : PlanValue → ℕ → ℕ → List (Option Held)
-new_readers plan start run =
-    map (new_reader_of plan start run) (range_with_len 0 (length plan.config.readers))
+abbrev pub new_readers : PlanValue → RunId → List (Option Held)
+new_readers plan run =
+    map (new_reader_of plan run) (range_with_len 0 (length plan.config.readers))
 
 -- What the handles of a host hold.
 pub record AllHeld : Type 0 where
@@ -109,8 +110,8 @@ pub record Begins (plan : PlanValue) (start run : ℕ) (before after : AllHeld) 
   pub made : List (Option Held)
   pub new : AreNewInstruments plan start run made
   pub instruments : AreFirst made before.instruments after.instruments
-  pub recorders : AreFirst (new_recorders plan run) before.recorders after.recorders
-  pub readers : AreFirst (new_readers plan start run) before.readers after.readers
+  pub recorders : AreFirst (new_recorders plan (run_of plan run start)) before.recorders after.recorders
+  pub readers : AreFirst (new_readers plan (run_of plan run start)) before.readers after.readers
 
 -- A run of the plan begins, and this is how many of each it has.
 pub record BeginsOf (plan : PlanValue) (start run : ℕ) (counts : Counts) (before after : AllHeld)

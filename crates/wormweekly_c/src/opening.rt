@@ -5,6 +5,7 @@ ghost use Rattle.wormweekly_c.specs.Opening.{AreNewInstruments, Begins, Counted,
 ghost use Rattle.wormweekly_c.specs.Refusing.{IsWhy};
 ghost use Rattle.wormweekly_c.specs.Telling.{HasFront};
 ghost use Rattle.wormweekly_c.specs.Texts.{AreFirst};
+ghost use Rattle.metric_seat.specs.Seats.{run_of};
 ghost use Rattle.metric_setup.specs.Setups.{IsCertifiedPlan};
 
 use crate::codes::{DONE, MEMORY, NO_TEXT, OPEN, TOO_SHORT};
@@ -14,7 +15,7 @@ use crate::held::Held;
 use crate::no_plan::{NoPlan, tell};
 use crate::telling::told_fault;
 use metric_base::{Copied, Shared};
-use metric_hosted::{Hosted, HostedReader, HostedRecorder, ReaderSeat, RecorderSeat};
+use metric_hosted::{Hosted, HostedReader, HostedRecorder, ReaderSeat, RecorderSeat, RunId};
 use metric_plan::Plan;
 use metric_setup::certified_plan;
 use std::alloc::{AllocError, Global};
@@ -236,13 +237,14 @@ fn new_run(alloc: Global, plan: &Shared<Plan>, start: u64, run: u64) -> Result<N
     ensures instruments { IfOk result (λ made.
         AreNewInstruments plan.now start run (held_in made.instruments.items)) }
     ensures recorders { IfOk result (λ made.
-        held_in made.recorders.items ≡ new_recorders plan.now run) }
+        held_in made.recorders.items ≡ new_recorders plan.now (run_of plan.now run start)) }
     ensures readers { IfOk result (λ made.
-        held_in made.readers.items ≡ new_readers plan.now start run) }
+        held_in made.readers.items ≡ new_readers plan.now (run_of plan.now run start)) }
 {
     let instruments = new_instruments(alloc, plan.get(), start, run)?;
+    let run = RunId::of(plan.get(), run, start);
     let recorders = new_recorders(alloc, plan, run)?;
-    let readers = new_readers(alloc, plan, start, run)?;
+    let readers = new_readers(alloc, plan, run)?;
     Ok(NewRun {
         instruments,
         recorders,
@@ -270,7 +272,7 @@ fn new_instruments(
     Ok(all)
 }
 
-fn new_recorders(alloc: Global, plan: &Shared<Plan>, run: u64) -> Result<Vec<Handle>, AllocError>
+fn new_recorders(alloc: Global, plan: &Shared<Plan>, run: RunId) -> Result<Vec<Handle>, AllocError>
     ensures { IfOk result (λ all. held_in all.items ≡ new_recorders plan.now run) }
 {
     let instruments = plan.get().all_facts().len();
@@ -286,19 +288,14 @@ fn new_recorders(alloc: Global, plan: &Shared<Plan>, run: u64) -> Result<Vec<Han
     Ok(all)
 }
 
-fn new_readers(
-    alloc: Global,
-    plan: &Shared<Plan>,
-    start: u64,
-    run: u64,
-) -> Result<Vec<Handle>, AllocError>
-    ensures { IfOk result (λ all. held_in all.items ≡ new_readers plan.now start run) }
+fn new_readers(alloc: Global, plan: &Shared<Plan>, run: RunId) -> Result<Vec<Handle>, AllocError>
+    ensures { IfOk result (λ all. held_in all.items ≡ new_readers plan.now run) }
 {
     let instruments = plan.get().all_facts().len();
     let count = plan.get().config().readers().len() as u32;
     let mut all = Vec::new(alloc);
     for number in 0..count {
-        let seat = ReaderSeat::new(alloc, run, start, number, instruments)?;
+        let seat = ReaderSeat::new(alloc, run, number, instruments)?;
         let plan = plan.copy(alloc)?;
         let last = None;
         let own = HostedReader { plan, seat, last };

@@ -1,5 +1,5 @@
-use Rattle.std.proofs.Common.{◌-◌, length}
+use Rattle.std.proofs.Common.{◌-◌}
 use Rattle.metric_provider.proofs.governing.+grant_from.Given as goal
 
 abbrev pub decreases-grant_from : goal.decreases-grant_from
-decreases-grant_from g l = length l.lanes.now - l.at
+decreases-grant_from g l = g.L.Row.count l.row.now - l.at

@@ -9,11 +9,10 @@ use Rattle.metric_provider.proofs.starting.new_collectors.Goals as goal
 pub loop-number-preserved : goal.loop-number-preserved
 loop-number-preserved c =
     let run = c.args.run in
-    let start = c.args.start in
     let number = c.loop-number.number in
     let all = c.args.plan.now.facts.instruments in
     c.in_ok-push.ensures.items
     ∙ ap (λ (done : List CollectorValue). done ++ c.in_ok-new.field-0 ∷ []) c.loop-number.invariant
-    ∙ ap (λ (seat : CollectorValue). map (new_collector run start (length all)) (range_with_len 0 number) ++ seat ∷ [])
-    (c.in_ok-new.ensures ∙ ap (λ (facts : List Facts). new_collector run start (length facts) number) c.all_facts-instruments.ensures.facts)
-    ∙ sym (map-range_with_len_more (new_collector run start (length all)) 0 number number (omega arith))
+    ∙ ap (λ (seat : CollectorValue). map (new_collector run (length all)) (range_with_len 0 number) ++ seat ∷ [])
+    (c.in_ok-new.ensures ∙ ap (λ (facts : List Facts). new_collector run (length facts) number) c.all_facts-instruments.ensures.facts)
+    ∙ sym (map-range_with_len_more (new_collector run (length all)) 0 number number (omega arith))

@@ -5,4 +5,4 @@ use Rattle.wormweekly_c.specs.Opening.{held_in, new_reader_of}
 use Rattle.wormweekly_c.proofs.opening.new_readers.Given as goal
 
 abbrev pub invariant-loop-number : goal.invariant-loop-number
-invariant-loop-number l = held_in l.all.items ≡ map (new_reader_of l.plan l.start l.run) (range_with_len 0 l.number)
+invariant-loop-number l = held_in l.all.items ≡ map (new_reader_of l.plan l.run) (range_with_len 0 l.number)

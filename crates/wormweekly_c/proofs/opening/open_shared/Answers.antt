@@ -7,6 +7,7 @@ use Rattle.wormweekly_c.specs.declared.held.Held.{Held}
 use Rattle.wormweekly_c.specs.declared.opening.Counts.{Counts}
 use Rattle.wormweekly_c.specs.Opening.{held_in, new_reader_of, new_recorder_of}
 use Rattle.metric_plan.specs.Plans.{PlanValue}
+use Rattle.metric_seat.specs.Seats.{run_of}
 use Rattle.wormweekly_c.proofs.HeldLaws.{first_held}
 use Rattle.wormweekly_c.proofs.RoomLaws.{has_room}
 use Rattle.wormweekly_c.proofs.opening.open_shared.Goals as goal
@@ -25,7 +26,7 @@ place-requires-in-Ok c =
     let long : length all ≡ count =
     sym (length-map all (λ (handle : Handle). handle.value))
     ∙ ap length c.in-Ok.ensures.recorders
-    ∙ length-map-range_with_len (new_recorder_of c.args.plan.now c.args.run) 0 count in
+    ∙ length-map-range_with_len (new_recorder_of c.args.plan.now (run_of c.args.plan.now c.args.run c.args.start)) 0 count in
     omega (arith, long, (has_room c.counts_of.result _ _ _ (sym c.lacks_handles.ensures ∙ c.if-lacks_handles.false)).1, ap (λ (counts : Counts). counts.recorders) c.counts_of.ensures, ap (λ (p : PlanValue). length p.facts.contents.recorders) c.get.ensures)
 
 pub place-requires-in-Ok-2 : goal.place-requires-in-Ok-2
@@ -35,7 +36,7 @@ place-requires-in-Ok-2 c =
     let long : length all ≡ count =
     sym (length-map all (λ (handle : Handle). handle.value))
     ∙ ap length c.in-Ok.ensures.readers
-    ∙ length-map-range_with_len (new_reader_of c.args.plan.now c.args.start c.args.run) 0 count in
+    ∙ length-map-range_with_len (new_reader_of c.args.plan.now (run_of c.args.plan.now c.args.run c.args.start)) 0 count in
     omega (arith, long, (has_room c.counts_of.result _ _ _ (sym c.lacks_handles.ensures ∙ c.if-lacks_handles.false)).2, ap (λ (counts : Counts). counts.readers) c.counts_of.ensures, ap (λ (p : PlanValue). length p.config.readers) c.get.ensures)
 
 pub returns-in-Ok-clause-opened : goal.returns-in-Ok-clause-opened

@@ -3,7 +3,8 @@ use Rattle.std.proofs.Common.{◌≡◌, true, List, refl, sym, ap, subst, ◌�
 use Rattle.metric_plan.specs.Plans.{PlanValue}
 use Rattle.metric_provider.specs.Locked.{AreLockedJournals}
 use Rattle.metric_provider.specs.Rolling.{new_collectors, new_recorders}
-use Rattle.metric_seat.specs.Seats.{ProviderValue, RecorderValue, provider_of}
+use Rattle.metric_seat.specs.declared.run_id.RunId.{RunId}
+use Rattle.metric_seat.specs.Seats.{ProviderValue, RecorderValue, provider_of, run_of}
 use Rattle.metric_provider.specs.Totals.{Finishes, RefusesFinish, seated}
 use Rattle.metric_provider.proofs.provider.Provider.rolled.Goals as goal
 
@@ -39,15 +40,17 @@ returns-in-Ok-clause-behind g c =
     c.as_slice.ensures.value c.in-Ok.ensures.behind)
 
 pub returns-in-Ok-clause-next : goal.returns-in-Ok-clause-next
-returns-in-Ok-clause-next g c = c.from_slots-provider.ensures ∙ ap (λ (p : ProviderValue). provider_of p.plan c.args.next.run) c.into_slots-plan.ensures.value
+returns-in-Ok-clause-next g c =
+    c.from_slots-provider.ensures ∙ ap (λ (r : RunId). provider_of c.into_slots-plan.result.0 r) c.of-id.ensures
+    ∙ ap (λ (p : ProviderValue). provider_of p.plan (run_of p.plan c.args.next.run c.args.next.start)) c.into_slots-plan.ensures.value
 
 pub returns-in-Ok-clause-next_recorders : goal.returns-in-Ok-clause-next_recorders
 returns-in-Ok-clause-next_recorders g c =
-    c.in-Ok.ensures.next_recorders ∙ ap (λ (p : ProviderValue). new_recorders g.B.Book.KEEPS_ENTRIES c.args.next.run p.plan) c.into_slots-plan.ensures.value
+    c.in-Ok.ensures.next_recorders ∙ ap (λ (p : ProviderValue). new_recorders g.B.Book.KEEPS_ENTRIES (run_of p.plan c.args.next.run c.args.next.start) p.plan) c.into_slots-plan.ensures.value
 
 pub returns-in-Ok-clause-next_collectors : goal.returns-in-Ok-clause-next_collectors
 returns-in-Ok-clause-next_collectors g c =
-    c.in-Ok.ensures.next_collectors ∙ ap (λ (p : ProviderValue). new_collectors c.args.next.run c.args.next.start p.plan) c.into_slots-plan.ensures.value
+    c.in-Ok.ensures.next_collectors ∙ ap (λ (p : ProviderValue). new_collectors (run_of p.plan c.args.next.run c.args.next.start) p.plan) c.into_slots-plan.ensures.value
 
 pub returns-in-Ok-clause-seated : goal.returns-in-Ok-clause-seated
 returns-in-Ok-clause-seated g c =

@@ -1,10 +1,10 @@
 -- all are accepted, or one is refused before the lock
-use Rattle.std.proofs.Common.{◌≡◌, ◌≤◌, ℕ, List, Result, OnOk, IfErr, length, take, sym, ap, subst, ◌∙◌, arith}
+use Rattle.std.proofs.Common.{◌≡◌, ◌≤◌, ℕ, List, Result, OnOk, IfErr, inl, inr, length, take, sym, ap, subst, ◌∙◌, arith}
 use Rattle.std.proofs.lemmas.List.{length-take-le, take_all}
 use Rattle.std.proofs.lemmas.Result.{IfErr-weaker, err_from_is_err_and, on_ok_weaker}
 use Rattle.metric_seat.specs.declared.fault.SetsFault.{SetsFault}
 use Rattle.metric_seat.specs.declared.keys.Measurement.{Measurement}
-use Rattle.metric_seat.specs.KeyRecordings.{AreAccepted, AreAdmitted, IsRefusedAfter, IsUnadmittedAfter, noted_of_all}
+use Rattle.metric_seat.specs.KeyRecordings.{AreAccepted, AreAdmitted, AreFirstAdmitted, IsRefusedAfter, IsUnadmittedAfter, noted_of_all}
 use Rattle.metric_seat.specs.Recordings.{SeatSpares}
 use Rattle.metric_seat.specs.Seats.{ProviderValue, provider_of}
 use Rattle.metric_seat.proofs.KeyLaws.{all_accepted, refused_before, refused_within, same_before, unadmitted_there}
@@ -143,3 +143,27 @@ returns-clause-told_before g c =
           subst (λ (r : Result (Unit {0}) SetsFault). IfErr r (λ (fault : SetsFault). new ≡ noted_of_all g.B.Book.KEEPS_ENTRIES plan seat c.args.instrument (take fault.place all)))
           (sym w.admitted-is) (told ∙ ap (λ (n : ℕ). noted_of_all g.B.Book.KEEPS_ENTRIES plan seat c.args.instrument (take n all)) w.count-is)
     ]
+
+-- ---- those that were handed on
+
+pub returns-clause-handed : goal.returns-clause-handed
+returns-clause-handed g c =
+    let q : ProviderValue = provider_of c.args.plan.now c.args.run in
+    let all = c.args.all.now in
+    let admitted : AreFirstAdmitted q c.args.self.now c.args.instrument all (take c.match-admitted.count all) =
+    elim c.match-admitted.branch [
+      | in-Ok w ↦ inl (take_all c.match-admitted.count all (omega (arith, w.count-is)), w.in-Ok.ensures.admitted)
+      | in-Err w ↦ inr (w.in-Err.fault, ap (λ (n : ℕ). take n all) w.count-is, w.in-Err.ensures.refused)
+    ] in
+    record { some = take c.match-admitted.count all; admitted = admitted; made = c.record_each.result; handed = c.record_each.ensures.handed }
+
+pub returns-in_err-record_each-clause-handed : goal.returns-in_err-record_each-clause-handed
+returns-in_err-record_each-clause-handed g c =
+    let q : ProviderValue = provider_of c.args.plan.now c.args.run in
+    let all = c.args.all.now in
+    let admitted : AreFirstAdmitted q c.args.self.now c.args.instrument all (take c.match-admitted.count all) =
+    elim c.match-admitted.branch [
+      | in-Ok w ↦ inl (take_all c.match-admitted.count all (omega (arith, w.count-is)), w.in-Ok.ensures.admitted)
+      | in-Err w ↦ inr (w.in-Err.fault, ap (λ (n : ℕ). take n all) w.count-is, w.in-Err.ensures.refused)
+    ] in
+    record { some = take c.match-admitted.count all; admitted = admitted; made = c.record_each.result; handed = c.record_each.ensures.handed }
