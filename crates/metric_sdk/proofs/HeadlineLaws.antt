@@ -1,5 +1,6 @@
 -- The history of all runs of a core is legal, and each batch in it is the definition's.
-use Rattle.std.proofs.Common.{◌≡◌, ℕ, List, [], ◌∷◌, Result, Ok, Err, sym, ap, subst, ◌∙◌}
+use Rattle.std.proofs.Common.{◌≡◌, ℕ, List, [], ◌∷◌, Result, Ok, Err, refl, sym, ap, subst, ◌∙◌}
+use Rattle.std.specs.Prelude.{IsTrue}
 use Rattle.metric_history.specs.Journals.{Standing}
 use Rattle.metric_contents.specs.declared.refusal.Refusal.{Refusal}
 use Rattle.metric_core.specs.CoreStands.{CoreStands, CoreValue}
@@ -11,8 +12,14 @@ use Rattle.metric_history.specs.declared.event.Reply.{Reply}
 use Rattle.metric_history.specs.declared.event.Reply.TheVariants.{Accepted, Collected, Done, Granted, Refused}
 use Rattle.metric_history.specs.History.{History}
 use Rattle.metric_history.specs.Legal.{AllLegal, IsLegal, KeepsLegal, Legal, LegalCollect, collection, grown}
-use Rattle.metric_plan.specs.Plans.{PlanValue}
-use Rattle.metric_sdk.specs.Headline.{AreReports, AreRuns, IsReport, IsRun, Run, history_after}
+use Rattle.metric_catalogue.specs.Sound.{IsSound}
+use Rattle.metric_contents.specs.declared.contents.Contents.{Contents}
+use Rattle.metric_plan.specs.Plans.{IsPlan, PlanValue}
+use Rattle.metric_history.specs.declared.entry.Entry.{Entry}
+use Rattle.metric_history.specs.Points.{CountsOnce}
+use Rattle.metric_safety.specs.SafeRuns.{IsSafeHistory, IsSafePlan}
+use Rattle.metric_views.specs.declared.stream.Stream.{Stream}
+use Rattle.metric_sdk.specs.Headline.{AreReports, AreRuns, IsReport, IsRun, Run, RunsAreExact, history_after}
 
 step : {B : Type 0} (stands : B → Standing) (plan : PlanValue) (start : ℕ) (core : CoreValue B) (h : History) (run : Run B) → core.plan ≡ plan → core.start ≡ start
     → CoreStands stands core h → IsRun stands core run → AllLegal plan.facts start h run.events run.replies
@@ -45,3 +52,25 @@ report_of facts start h (Grant recorder instrument amount) reply legal = tt
 pub reports_of : (facts : RunFacts) (start : ℕ) (h : History) → IsLegal facts start h → AreReports facts start h
 reports_of facts start [] legal = tt
 reports_of facts start (a ∷ older) legal = (reports_of facts start older legal.0, report_of facts start older a.event a.reply legal.1)
+
+pub exact_runs : {B : Type 0} (stands : B → Standing) → KeepsLegal → ((s : Stream) (window : List Entry) → CountsOnce s window)
+    → ((plan : PlanValue) (start : ℕ) (h : History) → IsSafePlan plan → IsLegal plan.facts start h → IsSafeHistory plan start h) → (plan : PlanValue) → IsSafePlan plan → RunsAreExact stands plan
+exact_runs stands keeps once histories plan safe core runs of stood are =
+    let own : IsSafePlan core.plan = subst (λ (q : PlanValue). IsSafePlan q) (sym of) safe in
+    let legal = legal_after stands keeps core.plan core.start core [] runs refl refl stood tt are in
+    record {
+      legal = legal;
+      safe = histories core.plan core.start (history_after [] runs) own legal;
+      reports = reports_of core.plan.facts core.start (history_after [] runs) legal;
+      counted = once;
+    }
+
+-- what a certified plan keeps makes it a safe one
+pub safe_plan : (plan : PlanValue) (contents : Contents) → IsPlan plan → contents ≡ plan.facts.contents → IsSound contents → IsTrue plan.is_certified → IsSafePlan plan
+safe_plan plan contents own is sound certified = record {
+  sound = subst (λ (c : Contents). IsSound c) is sound;
+  streams = own.streams;
+  facts = own.facts;
+  safe = own.safe certified;
+  ranges = own.ranges;
+}

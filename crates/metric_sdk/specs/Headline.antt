@@ -1,6 +1,7 @@
 -- The headline: what holds of every run of a core of a certified plan.
-use Rattle.std.specs.Prelude.{◌≡◌, ℕ, true, List, [], ◌∷◌, Ok}
+use Rattle.std.specs.Prelude.{◌≡◌, ℕ, Bool, true, List, [], ◌∷◌, Ok}
 use Rattle.metric_history.specs.Journals.{Standing}
+use Rattle.metric_bounds.specs.Safe.{IsSafe}
 use Rattle.metric_catalogue.specs.Sound.{IsSound}
 use Rattle.metric_cert.specs.Valid.{IsValid}
 use Rattle.metric_cert.specs.declared.claims.Claims.{Claims}
@@ -58,7 +59,7 @@ AreReports facts start [] = Unit {0}
 AreReports facts start (a ∷ older) =
     AreReports facts start older × IsReport facts start older a.event a.reply
 
--- # headline (profile) [IsExact, CertifiedRunsAreExact]
+-- # headline (profile) [IsExact, RunsAreExact, SafeRunsAreExact, CertifiedRunsAreExact]
 -- Of each history of a core of a certified plan: each reply is legal, exported streams differ in
 -- identity, nothing overflows, no number leaves its range and no sum refuses a recording, each batch
 -- reports what was accepted before it, and each recording of a window is counted once.
@@ -68,12 +69,26 @@ pub record IsExact (plan : PlanValue) (start : ℕ) (h : History) : Type 0 where
   pub reports : AreReports plan.facts start h
   pub counted : (s : Stream) (window : List Entry) → CountsOnce s window
 
--- Each premise is a clause: `valid` and `plan` of the check, what each catalogue and each plan
--- keeps, `plan` and `stands` of a new core, and those of its runs.
+-- what holds of each run of a new core of the plan
+abbrev pub RunsAreExact : {B : Type 0} → (B → Standing) → PlanValue → Type 0
+RunsAreExact {B} stands plan =
+    (core : CoreValue B) (runs : List (Run B)) → core.plan ≡ plan → CoreStands stands core []
+    → AreRuns stands core runs → IsExact core.plan core.start (history_after [] runs)
+
+-- So it is where a catalogue, as each is sound, and a config are safe together, whoever vouched for
+-- them. Each premise is a clause: of a plan, what each plan keeps; of a core, `plan` and `stands` of
+-- a new one, and those of its runs.
+abbrev pub SafeRunsAreExact : {B : Type 0} → (B → Standing) → Type 0
+SafeRunsAreExact {B} stands =
+    (is_certified : Bool) (by_product : List Bool) (contents : Contents) (config : Config)
+    → IsSound contents → IsSafe contents config
+    → RangesFit (plan_of is_certified by_product contents config).facts.instruments
+    → RunsAreExact stands (plan_of is_certified by_product contents config)
+
+-- so also where a certificate is valid for them, whoever made it
 abbrev pub CertifiedRunsAreExact : {B : Type 0} → (B → Standing) → Type 0
 CertifiedRunsAreExact {B} stands =
-    (contents : Contents) (config : Config) (certificate : Claims) (core : CoreValue B)
-    (runs : List (Run B)) → IsSound contents → IsValid contents config certificate
-    → core.plan ≡ plan_of true (by_product_of certificate) contents config
-    → RangesFit core.plan.facts.instruments → CoreStands stands core [] → AreRuns stands core runs
-    → IsExact core.plan core.start (history_after [] runs)
+    (contents : Contents) (config : Config) (certificate : Claims)
+    → IsSound contents → IsValid contents config certificate
+    → RangesFit (plan_of true (by_product_of certificate) contents config).facts.instruments
+    → RunsAreExact stands (plan_of true (by_product_of certificate) contents config)

@@ -171,8 +171,8 @@
 //!
 //! A provider is generic over the book that keeps the recordings of an instrument, and over a [`Gate`], with which a
 //! test holds threads inside a lock. Services use [`Marked`] and [`NoGate`]. [`batches_are_bounded`] says of each
-//! batch, over every book, what [`tables_are_bounded`] says of running tables; [`windows_meet`] says that no recording
-//! and no moment is between two of them, or in both.
+//! batch, over every book, what [`tables_are_bounded`] says of running tables; [`windows_meet`] says that by number and
+//! by time nothing is between two of them, or in both.
 //!
 //! A service that has to prove its numbers to somebody, for billing or after an incident, starts with [`Audited`]. It
 //! keeps each recording beside the tables, 32 bytes in the list of its instrument and 24 in the seat of its recorder:
@@ -207,6 +207,7 @@ pub use ended::Uncollected;
 pub use ended::Unexported;
 pub use ended::Unfinished;
 pub use ending::shutdown_all;
+pub use headline::certified_plans_run_exactly;
 pub use headline::certified_runs_are_exact;
 pub use metric_advice::Explanation;
 pub use metric_advice::Headroom;

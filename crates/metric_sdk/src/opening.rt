@@ -1,10 +1,14 @@
 //! A service from its texts to its seats.
 ghost use Rattle.std.specs.Prelude.{◌≡◌, IfErr, IfOk, IsTrue, OnErr, OnOk, false, true};
 ghost use Rattle.metric_io.specs.Counts.{next_count};
+ghost use Rattle.metric_audit.specs.AuditedStands.{StandsAudited};
+ghost use Rattle.metric_marked.specs.Marks.{StandsMarked};
 ghost use Rattle.metric_provider.specs.Rolling.{new_collectors, new_recorders};
-ghost use Rattle.metric_seat.specs.Seats.{provider_of};
+ghost use Rattle.metric_seat.specs.Seats.{provider_of, run_of};
+ghost use Rattle.metric_sdk.specs.Headline.{RunsAreExact};
 ghost use Rattle.metric_setup.specs.Setups.{IsCertifiedPlan, IsFirstClaimFault, IsFirstFault, IsVouchedPlan};
 
+use crate::headline::certified_plans_run_exactly;
 use crate::provider::{AuditedProvider, MeterProvider};
 use crate::runs::Runs;
 use metric_audit::Audited;
@@ -17,8 +21,9 @@ use std::sync::Wait;
 
 /// A provider of a catalogue and a config that are given as TOML, with a seat for each recorder and each reader, in the
 /// order of the two: both texts are read, a certificate is made and checked, and the provider starts at a time in
-/// nanoseconds (as [`now`](crate::now) gives it), as the next run of a process. By its number seats tell their provider
-/// from all others, so all providers of a process are opened with one [`Runs`].
+/// nanoseconds (as [`now`](crate::now) gives it), as the next run of a process. By its number, its start and its plan
+/// seats tell their provider from all others; all providers of a process are opened with one [`Runs`]. Each run of a core of its plan is exact:
+/// what [`certified_runs_are_exact`](crate::certified_runs_are_exact) says, with no premise about the texts.
 ///
 /// # Errors
 ///
@@ -34,13 +39,15 @@ pub fn open<R: Wait>(
 ) -> Result<(MeterProvider, Vec<Recorder>, Vec<Collector>), SetupFault>
     ensures plan { IfOk result (λ opened.
         IsCertifiedPlan catalogue_text.now config_text.now opened.0.plan) }
-    ensures run { IfOk result (λ opened. opened.0.run ≡ next_count runs.old) }
+    ensures exact { IfOk result (λ opened. RunsAreExact StandsMarked opened.0.plan) }
+    ensures run { IfOk result (λ opened.
+        opened.0.run ≡ run_of opened.0.plan (next_count runs.old) now) }
     ensures given { OnOk result (runs.new ≡ next_count runs.old) }
     ensures not_given { OnErr result (runs.new ≡ runs.old) }
     ensures recorders { IfOk result (λ opened.
         opened.1.items ≡ new_recorders false opened.0.run opened.0.plan) }
     ensures collectors { IfOk result (λ opened.
-        opened.2.items ≡ new_collectors opened.0.run now opened.0.plan) }
+        opened.2.items ≡ new_collectors opened.0.run opened.0.plan) }
     ensures first { IfErr result (λ fault.
         IsFirstFault fault catalogue_text.now config_text.now) }
 {
@@ -66,13 +73,15 @@ pub fn open_with_lanes<R: Wait>(
 ) -> Result<(MeterProvider, Vec<Recorder>, Vec<Collector>), SetupFault>
     ensures plan { IfOk result (λ opened.
         IsCertifiedPlan catalogue_text.now config_text.now opened.0.plan) }
-    ensures run { IfOk result (λ opened. opened.0.run ≡ next_count runs.old) }
+    ensures exact { IfOk result (λ opened. RunsAreExact StandsMarked opened.0.plan) }
+    ensures run { IfOk result (λ opened.
+        opened.0.run ≡ run_of opened.0.plan (next_count runs.old) now) }
     ensures given { OnOk result (runs.new ≡ next_count runs.old) }
     ensures not_given { OnErr result (runs.new ≡ runs.old) }
     ensures recorders { IfOk result (λ opened.
         opened.1.items ≡ new_recorders false opened.0.run opened.0.plan) }
     ensures collectors { IfOk result (λ opened.
-        opened.2.items ≡ new_collectors opened.0.run now opened.0.plan) }
+        opened.2.items ≡ new_collectors opened.0.run opened.0.plan) }
     ensures first { IfErr result (λ fault.
         IsFirstFault fault catalogue_text.now config_text.now) }
 {
@@ -96,13 +105,15 @@ pub fn open_certified<R: Wait>(
 ) -> Result<(MeterProvider, Vec<Recorder>, Vec<Collector>), SetupFault>
     ensures plan { IfOk result (λ opened.
         IsVouchedPlan catalogue_text.now config_text.now certificate_text.now opened.0.plan) }
-    ensures run { IfOk result (λ opened. opened.0.run ≡ next_count runs.old) }
+    ensures exact { IfOk result (λ opened. RunsAreExact StandsMarked opened.0.plan) }
+    ensures run { IfOk result (λ opened.
+        opened.0.run ≡ run_of opened.0.plan (next_count runs.old) now) }
     ensures given { OnOk result (runs.new ≡ next_count runs.old) }
     ensures not_given { OnErr result (runs.new ≡ runs.old) }
     ensures recorders { IfOk result (λ opened.
         opened.1.items ≡ new_recorders false opened.0.run opened.0.plan) }
     ensures collectors { IfOk result (λ opened.
-        opened.2.items ≡ new_collectors opened.0.run now opened.0.plan) }
+        opened.2.items ≡ new_collectors opened.0.run opened.0.plan) }
     ensures first { IfErr result (λ fault.
         IsFirstClaimFault fault catalogue_text.now config_text.now certificate_text.now) }
 {
@@ -126,13 +137,15 @@ pub fn open_audited<R: Wait>(
 ) -> Result<(AuditedProvider, Vec<Recorder>, Vec<Collector>), SetupFault>
     ensures plan { IfOk result (λ opened.
         IsCertifiedPlan catalogue_text.now config_text.now opened.0.plan) }
-    ensures run { IfOk result (λ opened. opened.0.run ≡ next_count runs.old) }
+    ensures exact { IfOk result (λ opened. RunsAreExact StandsAudited opened.0.plan) }
+    ensures run { IfOk result (λ opened.
+        opened.0.run ≡ run_of opened.0.plan (next_count runs.old) now) }
     ensures given { OnOk result (runs.new ≡ next_count runs.old) }
     ensures not_given { OnErr result (runs.new ≡ runs.old) }
     ensures recorders { IfOk result (λ opened.
         opened.1.items ≡ new_recorders true opened.0.run opened.0.plan) }
     ensures collectors { IfOk result (λ opened.
-        opened.2.items ≡ new_collectors opened.0.run now opened.0.plan) }
+        opened.2.items ≡ new_collectors opened.0.run opened.0.plan) }
     ensures first { IfErr result (λ fault.
         IsFirstFault fault catalogue_text.now config_text.now) }
 {
@@ -150,16 +163,18 @@ fn started<R: Wait, B: Book>(
     runs: &mut Runs,
 ) -> Result<(Provider<B, NoGate>, Vec<Recorder>, Vec<Collector>), SetupFault>
     requires { IsTrue plan.is_certified }
-    ensures provider { let run = next_count runs.old in
+    ensures provider { let run = run_of plan (next_count runs.old) now in
         IfOk result (λ opened. opened.0 ≡ provider_of plan run) }
-    ensures recorders { let run = next_count runs.old in
+    ensures exact { RunsAreExact B.stands plan }
+    ensures recorders { let run = run_of plan (next_count runs.old) now in
         IfOk result (λ opened. opened.1.items ≡ new_recorders B.KEEPS_ENTRIES run plan) }
-    ensures collectors { let run = next_count runs.old in
-        IfOk result (λ opened. opened.2.items ≡ new_collectors run now plan) }
+    ensures collectors { let run = run_of plan (next_count runs.old) now in
+        IfOk result (λ opened. opened.2.items ≡ new_collectors run plan) }
     ensures given { OnOk result (runs.new ≡ next_count runs.old) }
     ensures not_given { OnErr result (runs.new ≡ runs.old) }
     ensures memory { IfErr result (λ fault. fault ≡ SetupFault.Memory) }
 {
+    certified_plans_run_exactly::<B>(&plan);
     match start_with_lanes::<R, B, NoGate>(rt, alloc, plan, now, runs.coming(), NoGate, lanes) {
         Ok(opened) => {
             let _ = runs.next();

@@ -48,7 +48,7 @@ pub fn roll_over_all<R: Wait, B: Book, G: Gate, E: MetricExporter>(
         (λ unrolled. (unrolled.provider ≡ provider)
         × (unrolled.recorders.items ≡ recorders.items)
         × IsUnrolled (are_collected left.readers.items left.unasked.items)
-        (RefusesRoll B.stands (length provider.plan.facts.instruments) (run == provider.run)
+        (RefusesRoll B.stands (length provider.plan.facts.instruments) (run == provider.run.number)
         now (seated provider recorders.items)) unrolled.fault)) }
     ensures readers { IfErr result (λ left. let calls = calls_of E.MetricExporter provider.plan in
         EndsSome provider now calls exporter.old exporter.new
@@ -113,7 +113,7 @@ fn rolled<R: Wait, B: Book, G: Gate>(
         (λ unrolled. (unrolled.provider ≡ provider)
         × (unrolled.recorders.items ≡ recorders.items)
         × IsUnrolled all_collected
-        (RefusesRoll B.stands (length provider.plan.facts.instruments) (run == provider.run)
+        (RefusesRoll B.stands (length provider.plan.facts.instruments) (run == provider.run.number)
         start (seated provider recorders.items)) unrolled.fault) }
     ensures collected { OnOk result (all_collected ≡ true) }
 {

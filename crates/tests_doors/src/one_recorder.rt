@@ -1,8 +1,8 @@
-//! A test of a run of one recorder, which ends by a caller with a contract of its own.
+//! A test of a run of one recorder, which is opened and ends by callers with contracts of their own.
 use crate::asserted::OrFail;
 use crate::page::Page;
-use crate::proved_caller::totals_of_one;
-use metric_sdk::{Runs, counter, open};
+use crate::proved_caller::{opened, totals_of_one};
+use metric_sdk::counter;
 
 const CATALOGUE: &str = "format = 1
 [[meter]]
@@ -21,8 +21,9 @@ const CONFIG: &str = "format = 1\n[[reader]]\nname = 'q'\n";
 #[test]
 fn a_run_of_one_recorder_comes_to_what_it_was_told(rt: HostRuntime) {
     let mut page = Page::new(&rt, rt.alloc());
-    let opened = open(&rt, rt.alloc(), CATALOGUE, CONFIG, 0, &mut Runs::new());
-    let (provider, mut recorders, _readers) = opened.or_fail(&rt);
+    let (provider, mut recorders, _readers) = opened(&rt, rt.alloc(), CATALOGUE, CONFIG).or_fail(
+        &rt,
+    );
     let orders = counter(provider.plan(), "m", "c", &[]).or_fail(&rt);
     let mut recorder = recorders.pop().expect(&rt, "no recorder");
     for value in [4, 5] {
