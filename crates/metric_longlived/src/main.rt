@@ -5,16 +5,16 @@
 
 mod ledger;
 
-use anyhow::{Context, Result, ensure};
+use anyhow::{Result, ensure};
 use ledger::{Device, Ledger};
 use metric_sdk::{
-    AnySeat, Asking, Attr, ClockTicker, Collector, Counter, MeterProvider, OpenPeriodic, Plan,
-    Queued, Recorder, RunningCounts, Runs, StopFlag, Totals, counter, headrooms, now, open,
-    roll_over_all, shutdown_all,
+    AnySeat, Asking, Attr, Counter, Marked, MeterProvider, NextRun, NoGate, Outlet, Plan, Queued,
+    Recorder, Runs, Service, ServiceFault, StopFlag, Totals, Work, counter, headrooms, live, now,
+    open,
 };
 use std::alloc::Global;
 use std::sync::Wait;
-use std::thread::{Threads, for_each_mut, join};
+use std::thread::Threads;
 use std::time::Clock;
 
 // Each worker has a budget of 5 recordings in a run; 10 more are granted to whoever asks.
@@ -53,55 +53,47 @@ const JOBS: &[(&str, i64)] = &[
     ("mail", 6),
 ];
 
-// A provider with its seats.
-#[derive(Drop)]
-struct Service {
-    provider: MeterProvider,
-    recorders: Vec<Recorder>,
-    readers: Vec<Collector>,
-}
-
 // What the device does not take the queue keeps.
 type Queue<'a> = Queued<Ledger<'a>>;
 
+// The provider, with the reader and its queue.
+type Office<'a> = Service<((), Outlet<Queue<'a>>), Marked, NoGate>;
+
+// The next run, and what the one before came to.
+type Next<'a> = NextRun<((), Outlet<Queue<'a>>), Marked, NoGate>;
+
 fn main(rt: HostRuntime) -> Result<()> {
     let device = Device::new();
-    let mut queue = Queued::new(rt.alloc(), Ledger::new(&device), 1_000);
-    let recorded = live_three_runs(&rt, &device, &mut queue)?;
-    tell_exported(&rt, &queue, recorded)
-}
-
-// Three runs, of which the device is out for the second one. How much was recorded in all.
-fn live_three_runs<R: Threads + Wait + Clock + Print + Sync + AllocGlobal>(
-    rt: &R,
-    device: &Device,
-    queue: &mut Queue<'_>,
-) -> Result<i128> {
-    let mut runs = Runs::new();
-    let first = opened(rt, rt.alloc(), &mut runs)?;
-    let (second, mut recorded) = live_on(rt, first, queue, runs.next())?;
+    let queue = Queued::new(rt.alloc(), Ledger::new(&device), 1_000);
+    let (office, recorders) = opened(&rt, rt.alloc(), queue)?;
+    let next = live_on(&rt, office, recorders)?;
+    let mut recorded = sum_of(&next.totals);
     println!(rt; "first run: {recorded}")?;
     device.set_out(true);
-    let (third, more) = live_on(rt, second, queue, runs.next())?;
-    recorded = recorded.saturating_add(more);
-    let waits = !queue.kept().is_empty();
+    let next = live_on(&rt, next.service, next.recorders)?;
+    recorded = recorded.saturating_add(sum_of(&next.totals));
+    let waits = !next.service.outlets().1.exporter().kept().is_empty();
     println!(rt; "with the second run: {recorded}, some in the queue: {waits}")?;
     device.set_out(false);
-    recorded = recorded.saturating_add(live_to_end(rt, third, queue)?);
+    let (office, recorders) = live_once(&rt, next.service, next.recorders)?;
+    let ended = office.end(&rt, rt.alloc(), recorders, now(&rt)?)?;
+    recorded = recorded.saturating_add(sum_of(&ended.totals));
     println!(rt; "with the third run: {recorded}")?;
-    Ok(recorded)
+    tell_exported(&rt, ended.outlets.1.exporter(), recorded)
 }
 
-// The service of the first run.
-fn opened<R: Wait + Clock + Print>(rt: &R, alloc: Global, runs: &mut Runs) -> Result<Service> {
-    let (provider, recorders, readers) = open(rt, alloc, CATALOGUE, CONFIG, now(rt)?, runs)?;
-    let service = Service {
-        provider,
-        recorders,
-        readers,
-    };
-    tell_headroom(rt, alloc, service.provider.plan())?;
-    Ok(service)
+// The service in its first run, with the seats of its recorders: its reader exports every millisecond.
+fn opened<'a, R: Wait + Clock + Print>(
+    rt: &R,
+    alloc: Global,
+    queue: Queue<'a>,
+) -> Result<(Office<'a>, Vec<Recorder>)> {
+    let mut runs = Runs::new();
+    let (provider, recorders, readers) = open(rt, alloc, CATALOGUE, CONFIG, now(rt)?, &mut runs)?;
+    tell_headroom(rt, alloc, provider.plan())?;
+    let office = Service::builder(provider, readers, runs).tell(alloc, "new", queue, 1);
+    let office = office.map_err(ServiceFault::from)?.build();
+    Ok((office.map_err(ServiceFault::from)?, recorders))
 }
 
 // Tells what was exported. Fails where that is not all that was recorded, once.
@@ -125,45 +117,28 @@ fn tell_headroom<R: Print>(rt: &R, alloc: Global, plan: &Plan) -> Result<()> {
     Ok(())
 }
 
-// One run, and then the next one begins, also while the device is out: the queue keeps what it has. What the run came
-// to is told.
-fn live_on<R: Threads + Wait + Clock + Print + Sync + AllocGlobal>(
+// One run, and then the next one begins, also while the device is out: the queue keeps what it has.
+fn live_on<'a, R: Threads + Wait + Clock + Print + Sync + AllocGlobal>(
     rt: &R,
-    service: Service,
-    queue: &mut Queue<'_>,
-    run: u64,
-) -> Result<(Service, i128)> {
-    let Service {
-        provider,
-        recorders,
-        readers,
-    } = live(rt, service, queue)?;
-    let (alloc, moment) = (rt.alloc(), now(rt)?);
-    let next = roll_over_all(rt, alloc, provider, recorders, readers, queue, moment, run);
-    let next = next.or_else(|left| left.into_next())?;
-    let recorded = sum_of(&next.totals);
-    let service = Service {
-        provider: next.provider,
-        recorders: next.recorders,
-        readers: next.collectors,
-    };
-    Ok((service, recorded))
+    office: Office<'a>,
+    recorders: Vec<Recorder>,
+) -> Result<Next<'a>> {
+    let (office, recorders) = live_once(rt, office, recorders)?;
+    Ok(office.roll_over(rt, rt.alloc(), recorders, now(rt)?)?)
 }
 
-// The last run. What it came to is told; the queue tries once more what it keeps.
-fn live_to_end<R: Threads + Wait + Clock + Print + Sync + AllocGlobal>(
+// One run: the workers record, while the reader exports.
+fn live_once<'a, R: Threads + Wait + Clock + Print + Sync + AllocGlobal>(
     rt: &R,
-    service: Service,
-    queue: &mut Queue<'_>,
-) -> Result<i128> {
-    let Service {
-        provider,
-        recorders,
-        readers,
-    } = live(rt, service, queue)?;
-    let (alloc, moment) = (rt.alloc(), now(rt)?);
-    let totals = shutdown_all(rt, alloc, provider, recorders, readers, queue, moment)?;
-    Ok(sum_of(&totals))
+    office: Office<'a>,
+    recorders: Vec<Recorder>,
+) -> Result<(Office<'a>, Vec<Recorder>)> {
+    let workers = asking(rt.alloc(), office.plan(), recorders)?;
+    let pages = counter(office.plan(), "office", "pages", &["kind"])?;
+    let jobs = Jobs { pages };
+    let (office, workers) = live(rt, office, workers, &StopFlag::new(), &jobs);
+    tell_left(rt, office.provider(), &jobs.pages, &workers)?;
+    Ok((office, seats_of(rt.alloc(), workers)?))
 }
 
 // What was recorded in a run.
@@ -172,48 +147,6 @@ fn sum_of(totals: &Totals) -> i128 {
         [pages] => pages.sum,
         _ => 0,
     }
-}
-
-// One run: the workers record, while the reader exports every millisecond, and a last time when they have ended. Its
-// seat is there still where that was refused.
-fn live<R: Threads + Wait + Clock + Print + Sync + AllocGlobal>(
-    rt: &R,
-    service: Service,
-    queue: &mut Queue<'_>,
-) -> Result<Service> {
-    let Service {
-        provider,
-        recorders,
-        mut readers,
-    } = service;
-    let mut workers = asking(rt.alloc(), provider.plan(), recorders)?;
-    let pages = counter(provider.plan(), "office", "pages", &["kind"])?;
-    let seat = readers.pop().context("no reader")?;
-    let (stop, counts, lent) = (StopFlag::new(), RunningCounts::new(), &provider);
-    let work = |_, worker: &mut Asking| do_jobs(rt, lent, &pages, worker);
-    let (kept, workers) = join(
-        rt,
-        || {
-            let mut ticker = ClockTicker::every(1, &stop);
-            let reader = OpenPeriodic::of(queue);
-            let end = reader.run(rt, rt.alloc(), lent, seat, &mut ticker, &counts);
-            end.kept
-        },
-        || {
-            for_each_mut(rt, workers.as_mut_slice(), 64, &work);
-            stop.set(rt);
-            workers
-        },
-    );
-    if let Some(seat) = kept {
-        readers.push(seat)?;
-    }
-    tell_left(rt, &provider, &pages, &workers)?;
-    Ok(Service {
-        provider,
-        recorders: seats_of(rt.alloc(), workers)?,
-        readers,
-    })
 }
 
 // What is left of a run: how many recordings the workers may still make, how many can still be granted, and how many
@@ -253,10 +186,18 @@ fn seats_of(alloc: Global, workers: Vec<Asking>) -> Result<Vec<Recorder>> {
     Ok(recorders)
 }
 
-// Does all jobs. Metrics stop no work: what is refused is missing in the totals.
-fn do_jobs<R: Wait>(rt: &R, provider: &MeterProvider, pages: &Counter, worker: &mut Asking) {
-    let mut at = worker.at(rt, provider);
-    for (kind, count) in JOBS {
-        let _ = at.add(pages, &[Attr::text("kind", kind)], *count);
+// What the workers share.
+#[derive(Drop)]
+struct Jobs {
+    pages: Counter,
+}
+
+impl Work<Asking, MeterProvider> for Jobs {
+    // Does all jobs. Metrics stop no work: what is refused is missing in the totals.
+    fn work<R: Wait + Clock>(&self, rt: &R, provider: &MeterProvider, worker: &mut Asking) {
+        let mut at = worker.at(rt, provider);
+        for (kind, count) in JOBS {
+            let _ = at.add(&self.pages, &[Attr::text("kind", kind)], *count);
+        }
     }
 }

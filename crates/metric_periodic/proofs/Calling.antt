@@ -1,30 +1,38 @@
 -- An exporter that is called for batches, one after the other.
-use Rattle.std.proofs.Common.{◌≡◌, ℕ, ◌+◌, ◌<◌, ◌≤◌, List, [], ◌∷◌, ◌++◌, Result, length, get_or, take, subst, refl}
+use Rattle.std.proofs.Common.{◌≡◌, true, false, Ok, Err, sym, ℕ, ◌+◌, ◌<◌, ◌≤◌, List, [], ◌∷◌, ◌++◌, Result, length, get_or, take, subst, refl}
+use Rattle.std.proofs.lemmas.Bool.{false≢true}
 use Rattle.std.proofs.lemmas.List.{take_all, take_more}
+use Rattle.std.specs.Result.{is_err, result_err}
+use Rattle.metric_io.specs.Counts.{next_count}
+use Rattle.metric_periodic.specs.Outlets.{answer_of}
 use Rattle.metric_history.specs.declared.batch.Batch.{Batch}
 use Rattle.metric_export.specs.declared.fault.ExportFault.{ExportFault}
 use Rattle.metric_periodic.specs.Counts.{delayed_after, exported_after, refused_after}
 use Rattle.metric_export.specs.Handings.{Answering, Exporting}
-use Rattle.metric_periodic.specs.Exported.{ExportsEach, ExportsOne, IsFlushed, IsRetried, ShutsDown, Tally, failed_after}
+use Rattle.metric_periodic.specs.Exported.{Answered, ExportsEach, ExportsOne, Flushes, Retries, ShutsDown, Tally, failed_after}
 
 -- one call, and its answer counted
 pub one_exported : {E : Type 0} (exports : Exporting E) (a b : Tally E) (batch : Batch) (answer : Result (Unit {0}) ExportFault)
     → exports a.exporter b.exporter batch answer → b.exported ≡ exported_after a.exported answer → b.failed ≡ refused_after a.failed answer
-    → b.delayed ≡ delayed_after a.delayed answer → b.refused ≡ a.refused → b.unflushed ≡ a.unflushed → ExportsOne exports a b batch
-one_exported exports a b batch answer call exported failed delayed refused unflushed =
-    record { answer = answer; call = call; exported = exported; failed = failed; delayed = delayed; refused = refused; unflushed = unflushed }
+    → b.delayed ≡ delayed_after a.delayed answer → b.refused ≡ a.refused → b.unflushed ≡ a.unflushed → Answered exports a b batch answer
+one_exported exports a b batch answer call exported failed delayed refused unflushed = (
+  record { answer = answer; call = call; exported = exported; failed = failed; delayed = delayed; refused = refused; unflushed = unflushed },
+  refl,
+)
 
 -- a new try of what the exporter keeps
 pub retried_counted : {E : Type 0} (retries : Answering E) (a b : Tally E)
-    (answer : Result (Unit {0}) ExportFault) → retries a.exporter b.exporter answer → b ≡ record a { exporter = b.exporter } → IsRetried retries a b
-retried_counted retries a b answer call counts = record { answer = answer; call = call; counts = counts }
+    (answer : Result (Unit {0}) ExportFault) → retries a.exporter b.exporter answer → b ≡ record a { exporter = b.exporter } → Retries retries a b answer
+retried_counted retries a b answer call counts = (record { answer = answer; call = call; counts = counts }, refl)
 
 -- a flush, and its failure counted
 pub flushed_counted : {E : Type 0} (flushes : Answering E) (a b : Tally E)
     (answer : Result (Unit {0}) ExportFault) → flushes a.exporter b.exporter answer → b.exported ≡ a.exported
-    → b.failed ≡ a.failed → b.delayed ≡ a.delayed → b.refused ≡ a.refused → b.unflushed ≡ failed_after a.unflushed answer → IsFlushed flushes a b
-flushed_counted flushes a b answer call exported failed delayed refused unflushed =
-    record { answer = answer; call = call; exported = exported; failed = failed; delayed = delayed; refused = refused; unflushed = unflushed }
+    → b.failed ≡ a.failed → b.delayed ≡ a.delayed → b.refused ≡ a.refused → b.unflushed ≡ failed_after a.unflushed answer → Flushes flushes a b answer
+flushed_counted flushes a b answer call exported failed delayed refused unflushed = (
+  record { answer = answer; call = call; exported = exported; failed = failed; delayed = delayed; refused = refused; unflushed = unflushed },
+  refl,
+)
 
 -- a shutdown, and its failure counted
 pub shut_down_counted : {E : Type 0} (shuts_down : Answering E) (a b : Tally E)
@@ -52,3 +60,17 @@ next_exported exports a b c batches i batch within is p q =
 pub all_taken : {E : Type 0} (exports : Exporting E) (a b : Tally E) (batches : List Batch) (i : ℕ) → length batches ≤ i
     → ExportsEach exports a b (take i batches) → ExportsEach exports a b batches
 all_taken exports a b batches i over p = subst (ExportsEach exports a b) (take_all i batches over) p
+
+-- a failure is counted, and nothing else
+pub failure_counted : (failed : ℕ) (answer : Result (Unit {0}) ExportFault) → true ≡ is_err answer → next_count failed ≡ failed_after failed answer
+failure_counted failed (Ok done) is = absurd (false≢true (sym is))
+failure_counted failed (Err fault) is = refl
+
+pub none_counted : (failed : ℕ) (answer : Result (Unit {0}) ExportFault) → false ≡ is_err answer → failed ≡ failed_after failed answer
+none_counted failed (Ok done) is = refl
+none_counted failed (Err fault) is = absurd (false≢true is)
+
+-- an answer, by its fault
+pub answer_of_fault : (answer : Result (Unit {0}) ExportFault) → answer_of (result_err answer) ≡ answer
+answer_of_fault (Ok done) = refl
+answer_of_fault (Err fault) = refl

@@ -2,3 +2,4 @@ mod Calling
 mod Turning
 mod Handing
 mod Patience
+mod ShownLaws

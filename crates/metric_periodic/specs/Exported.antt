@@ -42,6 +42,11 @@ pub record ExportsOne {E : Type 0}
   pub refused : new.refused ≡ old.refused
   pub unflushed : new.unflushed ≡ old.unflushed
 
+-- it was, and answered this
+abbrev pub Answered : {E : Type 0} → Exporting E → Exporting (Tally E)
+Answered exports old new batch answer =
+    (one : ExportsOne exports old new batch) × (one.answer ≡ answer)
+
 -- it was called once for each batch, in order, and for no other
 abbrev pub ExportsEach : {E : Type 0} → Exporting E → Tally E → Tally E → List Batch → Type 0
 ExportsEach exports old new [] = new ≡ old
@@ -82,6 +87,13 @@ pub record IsRetried {E : Type 0}
   pub answer : Result (Unit {0}) ExportFault
   pub call : retries old.exporter new.exporter answer
   pub counts : new ≡ record old { exporter = new.exporter }
+
+-- it was flushed, or tried again, and answered this
+abbrev pub Flushes : {E : Type 0} → Answering E → Answering (Tally E)
+Flushes flushes old new answer = (one : IsFlushed flushes old new) × (one.answer ≡ answer)
+
+abbrev pub Retries : {E : Type 0} → Answering E → Answering (Tally E)
+Retries retries old new answer = (one : IsRetried retries old new) × (one.answer ≡ answer)
 
 -- The exporter was shut down, and a failure counted.
 pub record ShutsDown {E : Type 0}

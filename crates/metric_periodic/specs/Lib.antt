@@ -5,3 +5,5 @@ pub mod Counts
 pub mod Exported
 pub mod Turns
 pub mod Runs
+pub mod Shown
+pub mod Outlets

@@ -49,19 +49,3 @@ pub record IsRun {T C E : Type 0}
   pub reads : ReadsAll gives collects collects_last calls most start ticker stopped kept
       before_shutdown
   pub shut_down : ShutsDown calls.shuts_down before_shutdown counts
-
--- A run that leaves the exporter open, and ends with a flush of it.
-pub record IsOpenRun {T C E : Type 0}
-    (gives : Giving T)
-    (collects : Collecting C)
-    (collects_last : CollectingLast C)
-    (calls : Calls E)
-    (most : ℕ)
-    (start : Progress T C E)
-    (ticker : T)
-    (stopped : Option StopCause)
-    (kept : Option C)
-    (counts : Tally E) : Type 0 where
-  pub before_flush : Tally E
-  pub reads : ReadsAll gives collects collects_last calls most start ticker stopped kept before_flush
-  pub flushed : IsFlushed calls.flushes before_flush counts

@@ -13,11 +13,6 @@ pub record PeriodicValue (E : Type 0) : Type 0 where
   pub exporter : E
   pub turns : ℕ
 
--- a reader that goes on over several runs: its exporter with the counts, and the same
-pub record OpenPeriodicValue (E : Type 0) : Type 0 where
-  pub counts : Tally E
-  pub turns : ℕ
-
 -- why the ticker stops with a tick, where that is a stop
 abbrev pub stop_of : Tick → Option StopCause
 stop_of (At moment) = None

@@ -1,17 +1,18 @@
 //! The collection of all instruments in which a refused one hides no other.
-ghost use Rattle.std.specs.Prelude.{◌≡◌, ◌≤◌, ◌+◌, ◌++◌, ◌<◌, Err, IfErr, IfOk, Ok, OnErr, vec_capacity, vec_len};
-ghost use Rattle.metric_periodic.specs.Each.{CollectsEach, CollectsPatiently, given_by, refused_by};
+ghost use Rattle.std.specs.Prelude.{◌≡◌, ◌≤◌, ◌+◌, ◌++◌, ◌<◌, Err, IfOk, Ok, OnErr, vec_capacity, vec_len};
+ghost use Rattle.metric_periodic.specs.Each.{CollectsAll, CollectsEach, given_by, refused_by};
 
 use crate::each::{Collection, RefusedInstrument};
 use metric_contents::Refusal;
 use metric_export::has_points;
 use metric_history::{Batch, Book};
-use metric_provider::{AllFault, Collector, Gate, Provider};
+use metric_provider::{Collector, Gate, Provider};
 use std::alloc::{AllocError, Global};
 use std::sync::Wait;
 
 /// Collects of each instrument once, in order, and goes on where one is refused, as when out of memory: so a refused
-/// instrument hides no other. [`Collector::collect_all`] ends at the first refusal.
+/// instrument hides no other. [`Collector::collect_all`] ends at the first refusal. Only batches that have points are
+/// given.
 ///
 /// # Errors
 ///
@@ -27,6 +28,23 @@ pub fn collect_each<R: Wait, B: Book, G: Gate>(
         given.batches.items given.refused.items) }
     ensures err { OnErr result (seat.new ≡ seat.old) }
 {
+    let mut given = collect_all(rt, alloc, provider, seat, now)?;
+    given.batches.retain(|batch| has_points(batch));
+    Ok(given)
+}
+
+/// The same, and all batches are given.
+pub(crate) fn collect_all<R: Wait, B: Book, G: Gate>(
+    rt: &R,
+    alloc: Global,
+    provider: &Provider<B, G>,
+    seat: &mut Collector,
+    now: u64,
+) -> Result<Collection, AllocError>
+    ensures all { IfOk result (λ given. CollectsAll provider.now now seat.old seat.new
+        given.batches.items given.refused.items) }
+    ensures err { OnErr result (seat.new ≡ seat.old) }
+{
     let count = provider.plan().catalogue().instruments().len();
     let mut batches = Vec::with_capacity(alloc, count)?;
     let mut refused = Vec::with_capacity(alloc, count)?;
@@ -37,7 +55,7 @@ pub fn collect_each<R: Wait, B: Book, G: Gate>(
     Ok(Collection { batches, refused })
 }
 
-// Puts the batch of an instrument last, where it has points, or its refusal.
+// Puts the batch of an instrument last, or its refusal.
 fn put(
     instrument: u32,
     answer: Result<Batch, Refusal>,
@@ -54,42 +72,10 @@ fn put(
     ensures refused_room { vec_capacity refused.new ≡ vec_capacity refused.old }
 {
     match answer {
-        Ok(batch) => {
-            if has_points(&batch) {
-                batches.push_reserved(batch);
-            }
-        }
+        Ok(batch) => batches.push_reserved(batch),
         Err(refusal) => refused.push_reserved(RefusedInstrument {
             instrument,
             refusal,
-        }),
-    }
-}
-
-/// The same collection as a periodic reader counts it: refused where an instrument was, of which the first is told.
-pub(crate) fn collect_patiently<R: Wait, B: Book, G: Gate>(
-    rt: &R,
-    alloc: Global,
-    provider: &Provider<B, G>,
-    seat: &mut Collector,
-    now: u64,
-) -> Result<Vec<Batch>, AllFault>
-    ensures { CollectsPatiently provider.now now seat.old seat.new result }
-{
-    let Ok(given) = collect_each(rt, alloc, provider, seat, now) else {
-        return Err(AllFault {
-            done: Vec::new(alloc),
-            instrument: 0,
-            refusal: Refusal::Memory,
-        });
-    };
-    let Collection { batches, refused } = given;
-    match refused.first() {
-        None => Ok(batches),
-        Some(first) => Err(AllFault {
-            done: batches,
-            instrument: first.instrument,
-            refusal: first.refusal,
         }),
     }
 }

@@ -1,11 +1,14 @@
 //! Collections handed on to an exporter, and counted.
-ghost use Rattle.std.specs.Prelude.{◌≡◌, ◌||◌};
+ghost use Rattle.std.specs.Prelude.{◌≡◌, ◌≤◌, ◌==◌, length, not};
 ghost use Rattle.metric_export.specs.ExporterCalls.{IsExport, IsFlush, IsRetry, IsShutdown};
 ghost use Rattle.metric_periodic.specs.Counts.{delayed_after, exported_after, refused_after};
-ghost use Rattle.metric_periodic.specs.Exported.{ExportsCollected, ExportsEach, ExportsOne, IsFlushed, IsRetried, RetriesWhere, ShutsDown, gave_none, tally, with_collection};
+ghost use Rattle.metric_export.specs.Handings.{HandsOnInOrder, TakesOrRefuses};
+ghost use Rattle.metric_periodic.specs.Exported.{Answered, ExportsCollected, ExportsEach, Flushes, Retries, RetriesWhere, ShutsDown, tally, with_collection};
+ghost use Rattle.metric_periodic.specs.Outlets.{HandsOn, with_refusal};
 
 use crate::counts::Listener;
-use metric_export::{ExportFault, MetricExporter};
+use crate::ended::{Uncollected, Unexported};
+use metric_export::{ExportFault, Handed, MetricExporter};
 use metric_history::Batch;
 use metric_plan::Plan;
 use metric_provider::AllFault;
@@ -58,6 +61,21 @@ impl<E: MetricExporter> Exports<E> {
         }
     }
 
+    /// The exporter.
+    pub(crate) fn into_exporter(self) -> E
+        ensures { result ≡ self.exporter }
+    {
+        let Exports {
+            exporter,
+            exported: _,
+            failed: _,
+            delayed: _,
+            refused: _,
+            unflushed: _,
+        } = self;
+        exporter
+    }
+
     /// Hands on what a collection gave, also where it was refused before its end.
     pub(crate) fn hand_on_collected(
         &mut self,
@@ -84,22 +102,99 @@ impl<E: MetricExporter> Exports<E> {
         }
     }
 
-    // Hands on each batch in order, once.
-    fn hand_on(&mut self, alloc: Global, plan: &Plan, batches: &[Batch])
+    /// The batches that the exporter neither took nor keeps, so far.
+    pub(crate) fn failed(&self) -> u64
+        ensures { result ≡ self.now.failed }
+    {
+        self.failed
+    }
+
+    /// Whether there are more than so many by now.
+    pub(crate) fn has_failed_since(&self, failed: u64) -> bool
+        ensures { result ≡ not (self.now.failed == failed) }
+    {
+        self.failed != failed
+    }
+
+    /// Counts a collection in which something was refused.
+    pub(crate) fn count_refusal(&mut self, uncollected: &Option<Uncollected>)
+        ensures { self.new ≡ with_refusal self.old uncollected.now }
+    {
+        if uncollected.is_some() {
+            self.refused = self.refused.saturating_add(1);
+        }
+    }
+
+    /// Hands on batches in order, each once, up to the first that the exporter neither takes nor keeps. That one and
+    /// those after it are left.
+    pub(crate) fn hand_on_until_refused(
+        &mut self,
+        alloc: Global,
+        plan: &Plan,
+        batches: Vec<Batch>,
+    ) -> Option<Unexported>
+        ensures { HandsOn (Answered (IsExport E.MetricExporter plan.now)) self.old self.new
+            batches.items result }
+    {
+        let handed = self.hand_on_in_order(alloc, plan, &batches);
+        let fault = handed.refused?;
+        let mut batches = batches;
+        batches.drain(..handed.taken);
+        Some(Unexported { batches, fault })
+    }
+
+    // How many were taken, and why the next one was refused, where one was.
+    fn hand_on_in_order(&mut self, alloc: Global, plan: &Plan, batches: &[Batch]) -> Handed
+        ensures handed { HandsOnInOrder (Answered (IsExport E.MetricExporter plan.now))
+            self.old self.new batches.now result.taken result.refused }
+        ensures within { result.taken ≤ length batches.now }
+    {
+        for (taken, batch) in batches.iter().enumerate() {
+            match self.refusal_of(alloc, plan, batch) {
+                None => {}
+                Some(fault) => {
+                    return Handed {
+                        taken,
+                        refused: Some(fault),
+                    };
+                }
+            }
+        }
+        Handed {
+            taken: batches.len(),
+            refused: None,
+        }
+    }
+
+    // Hands a batch on. Why it was refused, where it was.
+    fn refusal_of(&mut self, alloc: Global, plan: &Plan, batch: &Batch) -> Option<ExportFault>
+        ensures { TakesOrRefuses (Answered (IsExport E.MetricExporter plan.now)) self.old self.new
+            batch.now result }
+    {
+        match self.hand_on_one(alloc, plan, batch) {
+            Ok(()) | Err(ExportFault::Kept) => None,
+            Err(fault) => Some(fault),
+        }
+    }
+
+    /// Hands on each batch in order, once.
+    pub(crate) fn hand_on(&mut self, alloc: Global, plan: &Plan, batches: &[Batch])
         ensures { ExportsEach (IsExport E.MetricExporter plan.now) self.old self.new batches.now }
     {
         for batch in batches {
-            self.hand_on_one(alloc, plan, batch);
+            let _counted = self.hand_on_one(alloc, plan, batch);
         }
     }
 
     // Hands on a batch, and counts the exporter's answer.
     #[tactic(auto, using(crate::proofs::Calling::one_exported))]
-    fn hand_on_one(&mut self, alloc: Global, plan: &Plan, batch: &Batch)
-        ensures { ExportsOne (IsExport E.MetricExporter plan.now) self.old self.new batch.now }
+    fn hand_on_one(&mut self, alloc: Global, plan: &Plan, batch: &Batch) -> Result<(), ExportFault>
+        ensures { Answered (IsExport E.MetricExporter plan.now) self.old self.new batch.now
+            result }
     {
         let answer = self.exporter.export(alloc, plan, batch);
         self.count(&answer);
+        answer
     }
 
     // Counts an export by the exporter's answer.
@@ -132,38 +227,33 @@ impl<E: MetricExporter> Exports<E> {
         );
     }
 
-    /// Lets the exporter try once more what it keeps, where that was asked for or a collection gave no batch.
-    pub(crate) fn retry_where(
-        &mut self,
-        alloc: Global,
-        plan: &Plan,
-        is_asked: bool,
-        collected: &Result<Vec<Batch>, AllFault>,
-    )
-        ensures { RetriesWhere (is_asked || gave_none collected.now)
-            (IsRetry E.MetricExporter plan.now) self.old self.new }
+    /// Lets the exporter try once more what it keeps, where that is due.
+    pub(crate) fn retry_where(&mut self, alloc: Global, plan: &Plan, is_due: bool)
+        ensures { RetriesWhere is_due (IsRetry E.MetricExporter plan.now) self.old self.new }
     {
-        if is_asked || gave_none(collected) {
-            self.retry(alloc, plan);
+        if is_due {
+            let _told = self.retry(alloc, plan);
         }
     }
 
     /// Flushes the exporter, and counts its failure.
     #[tactic(auto, using(crate::proofs::Calling::flushed_counted))]
-    pub(crate) fn flush(&mut self)
-        ensures { IsFlushed (IsFlush E.MetricExporter) self.old self.new }
+    pub(crate) fn flush(&mut self) -> Result<(), ExportFault>
+        ensures { Flushes (IsFlush E.MetricExporter) self.old self.new result }
     {
-        if self.exporter.force_flush().is_err() {
+        let answer = self.exporter.force_flush();
+        if answer.is_err() {
             self.unflushed = self.unflushed.saturating_add(1);
         }
+        answer
     }
 
     /// Lets the exporter try once more what it keeps. What became of that the exporter tells.
     #[tactic(auto, using(crate::proofs::Calling::retried_counted))]
-    pub(crate) fn retry(&mut self, alloc: Global, plan: &Plan)
-        ensures { IsRetried (IsRetry E.MetricExporter plan.now) self.old self.new }
+    pub(crate) fn retry(&mut self, alloc: Global, plan: &Plan) -> Result<(), ExportFault>
+        ensures { Retries (IsRetry E.MetricExporter plan.now) self.old self.new result }
     {
-        let _told = self.exporter.retry(alloc, plan);
+        self.exporter.retry(alloc, plan)
     }
 
     /// Shuts the exporter down, and counts its failure.
@@ -174,15 +264,5 @@ impl<E: MetricExporter> Exports<E> {
         if self.exporter.shutdown().is_err() {
             self.failed = self.failed.saturating_add(1);
         }
-    }
-}
-
-// Whether a collection gave no batch.
-fn gave_none(collected: &Result<Vec<Batch>, AllFault>) -> bool
-    ensures { result ≡ gave_none collected.now }
-{
-    match collected {
-        Ok(batches) => batches.is_empty(),
-        Err(fault) => fault.done.is_empty(),
     }
 }

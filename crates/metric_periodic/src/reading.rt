@@ -1,8 +1,10 @@
 //! The turns of a periodic reader, with any ticker, seat and exporter.
-ghost use Rattle.std.specs.Prelude.{◌≡◌, ◌+◌, ◌≤◌, None};
+ghost use Rattle.std.specs.Prelude.{◌≡◌, ◌+◌, ◌≤◌, ◌||◌, None};
 ghost use Rattle.metric_io.specs.Counts.{higher_count};
 ghost use Rattle.metric_export.specs.ExporterCalls.{calls_of};
-ghost use Rattle.metric_periodic.specs.Runs.{IsOpenRun, IsRun, ReadsAll};
+ghost use Rattle.metric_periodic.specs.Exported.{gave_none};
+ghost use Rattle.metric_periodic.specs.Runs.{IsRun, ReadsAll};
+ghost use Rattle.metric_periodic.specs.Ticks.{is_woken};
 ghost use Rattle.metric_periodic.specs.Turns.{IsCollectedAt, MakesTurns, stop_of, progress};
 
 use crate::counts::Listener;
@@ -10,7 +12,9 @@ use crate::exports::Exports;
 use crate::seat::Seat;
 use crate::tick::{StopCause, Tick, Ticker};
 use metric_export::MetricExporter;
+use metric_history::Batch;
 use metric_plan::Plan;
+use metric_provider::AllFault;
 use std::alloc::Global;
 
 /// A seat, the exporter that its batches are handed on to, and who is told the counts while it runs.
@@ -65,43 +69,6 @@ pub(crate) fn read_to_end<R, P, C: Seat<R, P>, E: MetricExporter, T: Ticker<R>, 
     }
 }
 
-/// Reads to the end, as [`read_all`] says, flushes the exporter, and leaves it open.
-pub(crate) fn read_open<R, P, C: Seat<R, P>, E: MetricExporter, T: Ticker<R>, L: Listener>(
-    rt: &R,
-    alloc: Global,
-    plan: &Plan,
-    provider: &P,
-    turns: u32,
-    reading: Reading<'_, C, E, L>,
-    ticker: &mut T,
-) -> Ended<C, E>
-    ensures run { IsOpenRun T.next_gives (C.collects provider.now) (C.collects_last provider.now)
-        (calls_of E.MetricExporter plan.now) turns
-        (progress ticker.old 0 reading.entry.seat reading.entry.exports)
-        ticker.new result.stopped result.kept result.exports }
-    ensures asked { T.asked ticker.new ≤ T.asked ticker.old + turns }
-    ensures all_turns { result.stopped ≡ None →
-        higher_count (T.asked ticker.old) turns ≤ T.asked ticker.new }
-    ensures told { L.told reading.entry.listener.now
-        result.exports.exported result.exports.failed result.exports.delayed
-        result.exports.refused result.exports.unflushed }
-{
-    let listener = reading.listener;
-    let ended = read_all(rt, alloc, plan, provider, turns, reading, ticker);
-    let Ended {
-        mut exports,
-        stopped,
-        kept,
-    } = ended;
-    exports.flush();
-    exports.tell(listener);
-    Ended {
-        exports,
-        stopped,
-        kept,
-    }
-}
-
 /// Collects at each tick, hands on what was collected, as [`collect_and_export`] says, and flushes the exporter, until the
 /// ticker stops or was asked so many times; then collects once more, at the moment of the last tick, 0 where there was
 /// none; and lets the exporter try once more what it keeps.
@@ -131,7 +98,7 @@ fn read_all<R, P, C: Seat<R, P>, E: MetricExporter, T: Ticker<R>, L: Listener>(
     } = reading;
     let (collected, kept) = seat.collect_last_at(rt, alloc, provider, last.moment());
     exports.hand_on_collected(alloc, plan, &collected);
-    exports.retry(alloc, plan);
+    let _told = exports.retry(alloc, plan);
     Ended {
         exports,
         stopped: stop_of(last),
@@ -199,9 +166,19 @@ fn collect_and_export<R, P, C: Seat<R, P>, E: MetricExporter, L: Listener>(
 {
     let collected = reading.seat.collect_at(rt, alloc, provider, tick.moment());
     reading.exports.hand_on_collected(alloc, plan, &collected);
-    reading
-        .exports
-        .retry_where(alloc, plan, tick.is_woken(), &collected);
-    reading.exports.flush();
+    let is_due = is_retried(tick, &collected);
+    reading.exports.retry_where(alloc, plan, is_due);
+    let _counted = reading.exports.flush();
     reading.exports.tell(reading.listener);
+}
+
+// Whether what is kept is tried again: where the tick was asked for, or the collection gave no batch.
+fn is_retried(tick: Tick, collected: &Result<Vec<Batch>, AllFault>) -> bool
+    ensures { result ≡ (is_woken tick || gave_none collected.now) }
+{
+    tick.is_woken()
+        || match collected {
+            Ok(batches) => batches.is_empty(),
+            Err(fault) => fault.done.is_empty(),
+        }
 }

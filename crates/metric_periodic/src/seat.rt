@@ -1,8 +1,7 @@
 //! What a periodic reader collects with.
-ghost use Rattle.std.specs.Prelude.{ℕ, IsErr, IsSome, Option};
+ghost use Rattle.std.specs.Prelude.{ℕ, Option};
 ghost use Rattle.metric_periodic.specs.Collections.{Collected};
 
-use crate::collecting::collect_patiently;
 use metric_history::{Batch, Book};
 use metric_provider::{AllFault, Collector, Gate, Provider};
 use std::alloc::Global;
@@ -66,44 +65,6 @@ impl<R: Wait, B: Book, G: Gate> Seat<R, Provider<B, G>> for Collector {
         match self.shutdown(rt, alloc, provider, now) {
             Ok(batches) => (Ok(batches), None),
             Err((seat, fault)) => (Err(fault), Some(seat)),
-        }
-    }
-}
-
-/// A provider that is collected from instrument by instrument, so that a refused one hides no other.
-#[derive(Drop)]
-pub(crate) struct Patiently<'a, B: Book, G: Gate> {
-    pub provider: &'a Provider<B, G>,
-}
-
-impl<'a, R: Wait, B: Book, G: Gate> Seat<R, Patiently<'a, B, G>> for Collector {
-    ghost use Rattle.metric_periodic.specs.Each.{CollectsLastPatiently, CollectsPatiently};
-
-    ghost collects = { λ p. CollectsPatiently p.provider.now };
-
-    ghost collects_last = { λ p. CollectsLastPatiently p.provider.now };
-
-    fn collect_at(
-        &mut self,
-        rt: &R,
-        alloc: Global,
-        provider: &Patiently<'a, B, G>,
-        now: u64,
-    ) -> Result<Vec<Batch>, AllFault> {
-        collect_patiently(rt, alloc, provider.provider, self, now)
-    }
-
-    fn collect_last_at(
-        self,
-        rt: &R,
-        alloc: Global,
-        provider: &Patiently<'a, B, G>,
-        now: u64,
-    ) -> (Result<Vec<Batch>, AllFault>, Option<Self>) {
-        let mut seat = self;
-        match collect_patiently(rt, alloc, provider.provider, &mut seat, now) {
-            Ok(batches) => (Ok(batches), None),
-            Err(fault) => (Err(fault), Some(seat)),
         }
     }
 }

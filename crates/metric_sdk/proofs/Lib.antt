@@ -1,3 +1,3 @@
 pub mod TableLaws
-pub mod EndLaws
 pub mod HeadlineLaws
+pub mod ServiceLaws

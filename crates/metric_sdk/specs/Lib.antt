@@ -1,6 +1,5 @@
-pub mod Endings
 pub mod Headline
-pub mod Rolls
+pub mod Services
 pub mod Tables
 pub use Rattle.metric_bounds.specs.Safe
 pub use Rattle.metric_catalogue.specs.Catalogues

@@ -104,8 +104,8 @@
 //! batch, so that the window of a delta reader is not lost; other threads read the [`QueueCounts`] of a [`ToldQueue`].
 //! A [`ReopeningExporter`] opens its sink anew.
 //!
-//! An [`OpenPeriodic`] leaves its exporter open at its [`OpenEnd`], and goes on in the next run. In it, and in
-//! [`collect_each`], a [`RefusedInstrument`] of a [`Collection`] hides no other. [`export_each`] exports a list and
+//! An [`Outlet`] is a reader's seat and one exporter over all runs (or an [`OutletLeft`]); a service has one for each reader ([End](#end)). In it,
+//! and in [`collect_each`], a [`RefusedInstrument`] of a [`Collection`] hides no other. [`export_each`] exports a list and
 //! says what was [`Handed`] on; [`has_points`] says which batches need not be.
 //!
 //! An exporter of your own refuses a batch of another plan with [`own_plan`], and with [`own_batch`] one of a reader whose
@@ -124,8 +124,8 @@
 //!
 //! Budgets run out. [`headrooms`] says how often each instrument may be recorded: its [`Headroom`].
 //! `Provider::roll_over` ends a run and starts the next one of the same plan, with new seats and full budgets, or hands
-//! everything back with a [`RollFault`]. [`roll_over_all`] does so with the readers and their exporter, up to a
-//! [`RollLeft`].
+//! everything back with a [`RollFault`]. [`Service::roll_over`] does so with the readers and their exporters, and returns
+//! the [`NextRun`], or what is [`Left`].
 //!
 //! For what no recorder's budget foresees, an instrument may have a spare. During the run, `Provider::grant` gives some
 //! of it to any recorder, and a recorder whose budget is spent ([`Refusal::Budget`]) asks with `Recorder::ask`, until
@@ -136,8 +136,15 @@
 //!
 //! # End
 //!
-//! [`shutdown_all`] lets readers collect a last time, exports what they return, flushes, and finishes the provider. An
-//! [`EndFault`] has each cause, and hands back what is left, with the plan to export it by. `Provider::finish` alone
+//! A [`Service`] is a provider with the way out of each reader. [`Service::builder`] takes what `open` gave;
+//! `ServiceBuilder::tell` pairs a reader with its exporter and a period, or hands both back ([`TellLeft`], with a
+//! [`TellFault`]), and `build` names the first reader that is [`Untold`] and not ignored. So no reader is forgotten, and no
+//! exporter gets the batches of two. [`live`] runs workers, each a call of your [`Work`], in threads beside the
+//! [`Outlets`], of which [`make_turns`] makes the turns. `Service::force_flush` lets all export now.
+//!
+//! [`Service::end`] lets each outlet collect a last time, exports, flushes, and finishes the provider: what was [`Ended`].
+//! What is [`Left`] else has each cause, how each reader ended ([`ReaderEnd`], with what was [`Uncollected`] and
+//! [`Unexported`]), and the service that goes on where it is [`Unended`], by an [`UnendedFault`]. `Provider::finish` alone
 //! returns the [`Totals`], a [`Total`] for each instrument, exactly what the recorders were told, or a [`FinishFault`].
 //! `Provider::finish_keeping` also returns the plan, and `Provider::finish_partly` ends a run in which a recorder's
 //! seat was lost, with what is [`Partly`] known. Calls that hand things back return them in a tuple with the fault; `?`
@@ -188,27 +195,27 @@
 //! point. [`read_all`] and [`write_all`] move a whole text.
 #![tactic(auto)]
 
-mod ended;
-mod ending;
 mod headline;
-mod last;
+mod leftover;
+mod living;
 mod opening;
 mod provider;
-mod rolled;
-mod rolling;
 mod run_audit;
+mod running;
 mod runs;
+mod service;
 mod service_fault;
 mod tables;
 
-pub use ended::EndFault;
-pub use ended::ReaderEnd;
-pub use ended::Uncollected;
-pub use ended::Unexported;
-pub use ended::Unfinished;
-pub use ending::shutdown_all;
 pub use headline::certified_plans_run_exactly;
 pub use headline::certified_runs_are_exact;
+pub use leftover::Ended;
+pub use leftover::Left;
+pub use leftover::NextRun;
+pub use leftover::Unended;
+pub use leftover::UnendedFault;
+pub use living::Work;
+pub use living::live;
 pub use metric_advice::Explanation;
 pub use metric_advice::Headroom;
 pub use metric_advice::KeyList;
@@ -359,17 +366,22 @@ pub use metric_outlets::Served;
 pub use metric_periodic::ClockTicker;
 pub use metric_periodic::Collection;
 pub use metric_periodic::ListTicker;
-pub use metric_periodic::OpenEnd;
-pub use metric_periodic::OpenPeriodic;
+pub use metric_periodic::Outlet;
+pub use metric_periodic::OutletLeft;
+pub use metric_periodic::Outlets;
 pub use metric_periodic::Periodic;
 pub use metric_periodic::PeriodicEnd;
+pub use metric_periodic::ReaderEnd;
 pub use metric_periodic::RefusedInstrument;
 pub use metric_periodic::RunningCounts;
 pub use metric_periodic::StopCause;
 pub use metric_periodic::StopFlag;
 pub use metric_periodic::Tick;
 pub use metric_periodic::Ticker;
+pub use metric_periodic::Uncollected;
+pub use metric_periodic::Unexported;
 pub use metric_periodic::collect_each;
+pub use metric_periodic::make_turns;
 pub use metric_plan::CheckFault;
 pub use metric_plan::Plan;
 pub use metric_provider::AllFault;
@@ -414,13 +426,14 @@ pub use opening::open_certified;
 pub use opening::open_with_lanes;
 pub use provider::AuditedProvider;
 pub use provider::MeterProvider;
-pub use rolled::RollLeft;
-pub use rolled::Unrollable;
-pub use rolled::Unrolled;
-pub use rolling::roll_over_all;
 pub use run_audit::audit_run;
 pub use runs::Runs;
 pub use runs::now;
+pub use service::Service;
+pub use service::ServiceBuilder;
+pub use service::TellFault;
+pub use service::TellLeft;
+pub use service::Untold;
 pub use service_fault::ServiceFault;
 pub use tables::audited_tables_are_bounded;
 pub use tables::tables_are_bounded;

@@ -12,10 +12,10 @@ use anyhow::{Context, Result, bail, ensure};
 use json::Times;
 use json_lines::JsonLines;
 use metric_sdk::{
-    AnySeat, Attr, BoundCounter, ClockTicker, Collector, Counted, Counter, Gauge, Histogram,
-    MeterProvider, MetricExporter, NamedText, OtlpLines, Periodic, Plan, Recorder, Resource, Runs,
-    ServiceFault, SetupFault, StdSink, StopFlag, TextExporter, Totals, UpDownCounter, counter,
-    diagnose_catalogue, diagnose_config, gauge, histogram, now, open_with_lanes, take_reader,
+    AnySeat, Attr, BoundCounter, Counted, Counter, Gauge, Histogram, Marked, MeterProvider,
+    NamedText, NoGate, OtlpLines, Outlet, Plan, Recorder, Resource, Runs, Service, ServiceBuilder,
+    ServiceFault, SetupFault, StdSink, StopFlag, TextExporter, Totals, UpDownCounter, Work,
+    counter, diagnose_catalogue, diagnose_config, gauge, histogram, live, now, open_with_lanes,
     up_down_counter,
 };
 use std::alloc::Global;
@@ -24,7 +24,6 @@ use std::fs::{self, File, OpenOptions};
 use std::io::Stdout;
 use std::rt::Files;
 use std::sync::Wait;
-use std::thread::{Threads, for_each_mut, join};
 use std::time::Clock;
 
 // A request: the route, the status, milliseconds and bytes.
@@ -41,11 +40,16 @@ const SERVED: [[Request; 2]; 4] = [
 // How many lanes an instrument may have: one for each worker, so that none waits for another.
 const LANES: u32 = 4;
 
-// A provider, and the seats of its recorders and readers.
-type Opened = (MeterProvider, Vec<Recorder>, Vec<Collector>);
+// A service whose readers wait for their exporters, and the seats of its recorders.
+type Opened = (ServiceBuilder<(), Marked, NoGate>, Vec<Recorder>);
 
 // What adds lines to a file.
 type Lines = TextExporter<StdSink<File>, OtlpLines>;
+
+// The lines of this service's own, and both ways out.
+type OwnLines = JsonLines<StdSink<Stdout>>;
+
+type Shopped = Service<(((), Outlet<Lines>), Outlet<OwnLines>), Marked, NoGate>;
 
 // The seat of a worker, which counts what it is refused, and how many requests the worker has served.
 type Worker = (Counted, u64);
@@ -78,14 +82,6 @@ impl Shop {
         })
     }
 
-    // Serves each request whose turn it is.
-    fn serve<R: Wait>(&self, rt: &R, provider: &MeterProvider, (seat, served): &mut Worker) {
-        for request in SERVED[seat.seat().number() as usize % SERVED.len()] {
-            self.measure(rt, provider, seat, request);
-            *served = served.saturating_add(1);
-        }
-    }
-
     // Records a request. Metrics stop no service: the seat counts what is refused.
     fn measure<R: Wait>(
         &self,
@@ -109,19 +105,47 @@ impl Shop {
     }
 }
 
+impl Work<Worker, MeterProvider> for Shop {
+    // Serves each request whose turn it is.
+    fn work<R: Wait + Clock>(&self, rt: &R, provider: &MeterProvider, worker: &mut Worker) {
+        let (seat, served) = worker;
+        for request in SERVED[seat.seat().number() as usize % SERVED.len()] {
+            self.measure(rt, provider, seat, request);
+            *served = served.saturating_add(1);
+        }
+    }
+}
+
 fn main(rt: HostRuntime) -> Result<()> {
     let words: Vec<String> = env::args(&rt)?.collect(rt.alloc())?;
     let [_, catalogue, config, file] = words.as_slice() else {
         bail!("usage: metric_service CATALOGUE CONFIG FILE");
     };
-    let (provider, recorders, readers) = opened(&rt, catalogue, config)?;
+    let (service, recorders) = opened(&rt, catalogue, config)?;
     let file = added_to().open(&rt, file.as_str())?;
     // What takes these lines stamps each one.
     let own = JsonLines::new(StdSink::new(rt.stdout()), Times::LeftOut);
-    let (workers, failed) = serve(&rt, &provider, recorders, readers, file, own)?;
-    settle(&rt, rt.alloc(), provider, workers)?;
-    println!(rt; "failed exports by reader: {failed:?}")?;
-    Ok(())
+    let service = told(rt.alloc(), service, file, own)?;
+    let shop = Shop::new(service.plan())?;
+    let workers = workers_of(rt.alloc(), service.plan(), recorders)?;
+    let (service, workers) = live(&rt, service, workers, &StopFlag::new(), &shop);
+    settle(&rt, rt.alloc(), service, workers)
+}
+
+// The service, whose reader `all` adds lines to a file every ten seconds, and `new` writes its own every minute.
+fn told(
+    alloc: Global,
+    service: ServiceBuilder<(), Marked, NoGate>,
+    file: File,
+    own: OwnLines,
+) -> Result<Shopped> {
+    let all = service.reader("all").context("no reader \"all\"")?;
+    let lines = lines_to(alloc, service.plan(), all, file)?;
+    let service = service.tell(alloc, "all", lines, 10_000);
+    let service = service.map_err(ServiceFault::from)?;
+    let service = service.tell(alloc, "new", own, 60_000);
+    let service = service.map_err(ServiceFault::from)?.build();
+    Ok(service.map_err(ServiceFault::from)?)
 }
 
 // An exporter that adds the lines of a reader to a file. None is made where a boundary would leave as another one, since
@@ -169,7 +193,9 @@ fn opened_texts<R: Wait + Clock>(
 ) -> Result<Opened> {
     let (first, second, mut runs) = (catalogue.text, config.text, Runs::new());
     match open_with_lanes(rt, alloc, first, second, LANES, now(rt)?, &mut runs) {
-        Ok(opened) => Ok(opened),
+        Ok((provider, recorders, readers)) => {
+            Ok((Service::builder(provider, readers, runs), recorders))
+        }
         Err(SetupFault::Catalogue(fault)) => {
             bail!("{}", diagnose_catalogue(alloc, catalogue, fault)?)
         }
@@ -179,18 +205,22 @@ fn opened_texts<R: Wait + Clock>(
 }
 
 // Ends the service, and tells what each instrument came to. Fails where that is not what the workers counted.
-fn settle<R: Wait + Print>(
+fn settle<R: Wait + Clock + Print>(
     rt: &R,
     alloc: Global,
-    provider: MeterProvider,
+    service: Shopped,
     workers: Vec<Worker>,
 ) -> Result<()> {
     let counts = counted(alloc, &workers)?;
     let seats = seats_of(alloc, workers)?;
-    let ended = provider.finish_keeping(rt, alloc, seats);
-    let ended = ended.map_err(ServiceFault::from)?;
+    let ended = service.end(rt, alloc, seats, now(rt)?)?;
     let same = tell_totals(rt, &ended.plan, &ended.totals, counts)?;
     ensure!(same, "the totals are not what the workers counted");
+    let ((_, all), new) = &ended.outlets;
+    println!(rt;
+        "failed exports by reader: {:?}",
+        (all.failed(), new.failed())
+    )?;
     Ok(())
 }
 
@@ -235,36 +265,6 @@ fn counted(alloc: Global, workers: &[Worker]) -> Result<Counts> {
     Ok((served, refused))
 }
 
-// Serves until the workers have ended. They come back, and how many exports of each reader failed.
-fn serve<R: Threads + Wait + Clock + Sync + AllocGlobal>(
-    rt: &R,
-    provider: &MeterProvider,
-    recorders: Vec<Recorder>,
-    mut readers: Vec<Collector>,
-    file: File,
-    own: JsonLines<StdSink<Stdout>>,
-) -> Result<(Vec<Worker>, (u64, u64))> {
-    let (shop, stop) = (Shop::new(provider.plan())?, StopFlag::new());
-    let all = take_reader(provider.plan(), &mut readers, "all").context("no reader \"all\"")?;
-    let new = take_reader(provider.plan(), &mut readers, "new").context("no reader \"new\"")?;
-    let lines = lines_to(rt.alloc(), provider.plan(), all.number(), file)?;
-    let mut workers = workers_of(rt.alloc(), provider.plan(), recorders)?;
-    let work = |_, worker: &mut Worker| shop.serve(rt, provider, worker);
-    let readers = || {
-        join(
-            rt,
-            || export_by(rt, lines, provider, all, 10_000, &stop),
-            || export_by(rt, own, provider, new, 60_000, &stop),
-        )
-    };
-    let (failed, workers) = join(rt, readers, || {
-        for_each_mut(rt, workers.as_mut_slice(), 64, &work);
-        stop.set(rt);
-        workers
-    });
-    Ok((workers, failed))
-}
-
 // A worker for each recorder.
 fn workers_of(alloc: Global, plan: &Plan, recorders: Vec<Recorder>) -> Result<Vec<Worker>> {
     let mut workers = Vec::new(alloc);
@@ -273,18 +273,4 @@ fn workers_of(alloc: Global, plan: &Plan, recorders: Vec<Recorder>) -> Result<Ve
         workers.push((seat.map_err(|(_, refused)| refused)?, 0))?;
     }
     Ok(workers)
-}
-
-// Exports every so many milliseconds, and a last time when the workers have ended. Tells what failed.
-fn export_by<R: Wait + Clock + AllocGlobal, E: MetricExporter + Drop>(
-    rt: &R,
-    exporter: E,
-    provider: &MeterProvider,
-    reader: Collector,
-    milliseconds: u64,
-    stop: &StopFlag,
-) -> u64 {
-    let mut ticker = ClockTicker::every(milliseconds, stop);
-    let end = Periodic::of(exporter).run(rt, rt.alloc(), provider, reader, &mut ticker);
-    end.failed.saturating_add(end.refused)
 }

@@ -5,8 +5,8 @@
 
 use anyhow::{Context, Result, bail};
 use metric_sdk::{
-    Attr, Broken, Dialect, MeterProvider, MetricExporter, PageExporter, Pages, Plan, Recorder,
-    Resource, Runs, counter, export_each, gauge, histogram, open,
+    Attr, Broken, Dialect, MeterProvider, PageExporter, Pages, Plan, Recorder, Resource, Runs,
+    Service, ServiceFault, counter, gauge, histogram, open,
 };
 use std::alloc::Global;
 use std::env;
@@ -98,17 +98,17 @@ fn main(rt: HostRuntime) -> Result<()> {
 // Does the night's work, and writes what it recorded.
 fn run<R: Wait>(rt: &R, alloc: Global, file: TextFile<'_>) -> Result<()> {
     let mut runs = Runs::new();
-    let (provider, mut recorders, mut readers) = open(rt, alloc, CATALOGUE, CONFIG, 0, &mut runs)?;
-    let recorder = recorders.first_mut().context("no recorder")?;
-    let reader = readers.first_mut().context("no reader")?;
+    let (provider, mut recorders, readers) = open(rt, alloc, CATALOGUE, CONFIG, 0, &mut runs)?;
+    let service = Service::builder(provider, readers, runs);
+    let reader = service.reader("textfile").context("no reader")?;
     // Before anything is recorded: none is made unless a server would hold each sample.
-    let mut page = page_of(alloc, provider.plan(), reader.number(), file)?;
-    back_up(rt, &provider, recorder)?;
-    let batches = reader.collect_all(rt, alloc, &provider, 1_000)?;
-    if let Some(fault) = export_each(&mut page, alloc, provider.plan(), &batches).refused {
-        return Err(fault.into());
-    }
-    page.shutdown()?;
+    let page = page_of(alloc, service.plan(), reader, file)?;
+    let service = service.tell(alloc, "textfile", page, 60_000);
+    let service = service.map_err(ServiceFault::from)?.build();
+    let service = service.map_err(ServiceFault::from)?;
+    let recorder = recorders.first_mut().context("no recorder")?;
+    back_up(rt, service.provider(), recorder)?;
+    service.end(rt, alloc, recorders, 1_000)?;
     Ok(())
 }
 

@@ -1,11 +1,11 @@
 //! Tests of a service from its two files to its totals.
 use crate::asserted::{OrFail, assert_equal};
-use crate::ends::end;
+use crate::ends::{end, export_left, runs_after};
 use crate::page::Page;
 use crate::services::{Seats, Service};
 use metric_sdk::{
-    Catalogue, Config, CutSink, Runs, SetupFault, TextExporter, make, now, open, open_certified,
-    open_with_lanes,
+    Catalogue, Config, CutSink, Runs, Service as Whole, ServiceFault, SetupFault, TextExporter,
+    make, now, open, open_certified, open_with_lanes,
 };
 use std::alloc::Global;
 use std::process::Abort;
@@ -220,10 +220,11 @@ point {} start=100 time=200 value=3
         flushes: false,
         told: "done
 done
-finished; reader 0, 2 batches not exported: 1 Write; reader 1, 2 batches not exported: 1 Write; not flushed: 1 Write
+ended; reader 0, 2 batches not exported: 1 Write, not flushed: 1 Write; reader 1, 2 batches not exported: 1 Write, not flushed: 1 Write
 [Total { count: 1, sum: 3 }, Total { count: 1, sum: 3 }]
 1 Write
 1 Write
+done
 1 Write
 1 Write
 done
@@ -236,8 +237,9 @@ done
         flushes: false,
         told: "done
 done
-finished; not flushed: 1 Write
+ended; reader 0, not flushed: 1 Write; reader 1, not flushed: 1 Write
 [Total { count: 1, sum: 3 }, Total { count: 1, sum: 3 }]
+done
 done
 collected 200 1
 stream reader=\"C\" meter=\"m\" version=\"\" schema=\"\" name=\"A\" unit=\"\" description=\"\" kind=sum monotonic=yes temporality=cumulative
@@ -260,13 +262,8 @@ point {} start=5 time=200 value=3
         flushes: false,
         told: "done
 done
-not finished: 1 RecorderMissing; reader 0, 2 batches not exported: 1 Write; reader 1, 2 batches not exported: 1 Write; not flushed: 1 Write
+not ended: 1 RecorderMissing; reader 0, 2 batches not exported: 1 Write, not flushed: 1 Write; reader 1, 2 batches not exported: 1 Write, not flushed: 1 Write
 1
-1 Write
-1 Write
-1 Write
-1 Write
-done
 ",
     },
 ];
@@ -297,6 +294,9 @@ fn record<R: Abort + Wait>(page: &mut Page<'_, R>, service: &mut Service) {
     }
 }
 
+// What the batches of a reader are written to.
+type Lines = TextExporter<CutSink>;
+
 // Goes over into another run, and writes the totals of this one, or why it goes on.
 fn rolled<R: Abort + Wait>(page: &mut Page<'_, R>, service: Service, run: u64) -> Service {
     let (provider, recorders, readers) = service.into_seats();
@@ -322,15 +322,46 @@ fn tell_case<R: Abort + Wait>(page: &mut Page<'_, R>, case: &Case) {
             Step::Keep(kept) => service.recorders.truncate(*kept),
         }
     }
-    let sink = CutSink::new(page.alloc, case.room);
-    let sink = if case.flushes {
+    let (mut first, mut second) = (exporter(page.alloc, case), exporter(page.alloc, case));
+    end_both(page, service, &mut first, &mut second);
+    for exporter in [&first, &second] {
+        page.push(str::from_utf8(exporter.sink().taken()).or_fail(page.rt))
+    }
+}
+
+fn exporter(alloc: Global, case: &Case) -> Lines {
+    let sink = CutSink::new(alloc, case.room);
+    TextExporter::new(if case.flushes {
         sink
     } else {
         sink.with_failing_flush()
-    };
-    let mut exporter = TextExporter::new(sink);
-    end(page, service, &mut exporter, 200);
-    page.push(str::from_utf8(exporter.sink().taken()).or_fail(page.rt))
+    })
+}
+
+// Ends a service whose two readers have an exporter each, and exports by the plan what they hand back.
+fn end_both<R: Abort + Wait>(
+    page: &mut Page<'_, R>,
+    service: Service,
+    first: &mut Lines,
+    second: &mut Lines,
+) {
+    let (provider, recorders, readers) = service.into_seats();
+    let service = Whole::builder(provider, readers, runs_after(9));
+    let service = service.tell(page.alloc, "C", &mut *first, 1);
+    let service = service.map_err(ServiceFault::from).or_fail(page.rt);
+    let service = service.tell(page.alloc, "D", &mut *second, 1);
+    let service = service.map_err(ServiceFault::from).or_fail(page.rt).build();
+    let service = service.map_err(ServiceFault::from).or_fail(page.rt);
+    if let Some((ends, plan)) = end(page, service, recorders, 200) {
+        for end in &ends {
+            let exporter = if end.reader == 0 {
+                &mut *first
+            } else {
+                &mut *second
+            };
+            export_left(page, &plan, end, exporter);
+        }
+    }
 }
 
 #[test]

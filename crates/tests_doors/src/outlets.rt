@@ -2,13 +2,14 @@
 //! after each collection.
 use crate::asserted::{OrFail, assert_equal};
 use crate::calls::{Call, Lent, make};
-use crate::ends::end;
+use crate::ends::runs_after;
+use crate::failing::{Failing, failing_at};
 use crate::page::Page;
-use crate::services::Service;
+use crate::services::{HITS as ONE, Service};
 use metric_sdk::{
-    Attr, Batch, Broken, CutSink, Dialect, Encoding, ExportFault, Exposition, MetricExporter,
-    OtlpBytes, OtlpLines, OutletFault, PageExporter, Pages, Plan, Queued, Resource, ResourceFault,
-    Runs, TextExporter, counter, histogram, open,
+    Attr, Batch, Broken, CutSink, Dialect, Encoding, ExportFault, Exposition, KeepingExporter,
+    MetricExporter, OtlpBytes, OtlpLines, OutletFault, PageExporter, Pages, Plan, Queued, Resource,
+    ResourceFault, Runs, Service as Whole, ServiceFault, TextExporter, counter, histogram, open,
 };
 use std::alloc::Global;
 use std::process::Abort;
@@ -246,15 +247,13 @@ temporality = { counter = 'delta', histogram = 'delta' }
 name = 'all'
 ";
 
-// Why no page is made for the delta reader, nor for a third. What an end with both readers leaves, where the page is
-// the second one's: its totals, the batch of the first one, which is refused again, and that nothing is kept.
+// Why no page is made for the delta reader, nor for a third; why the second one's is not the first one's; and why a
+// service is not begun while that one has none, nor is one told twice.
 const TAKEN: &str = "2 Exposed: 1 Delta of stream 0
 1 UnknownReader
-finished; reader 0, 1 batches not exported: 6 OtherReader
-[Total { count: 1, sum: 7 }, Total { count: 0, sum: 0 }]
-6 OtherReader
-done
-0
+the exporter was made for another reader
+reader 0 has no exporter, and is not ignored
+no such reader, or it has its exporter
 ";
 
 #[test]
@@ -268,9 +267,21 @@ fn an_output_takes_the_batches_of_its_reader(rt: HostRuntime) {
         page.answer(pages_of(&rt, alloc, plan, reader).map(|_| ()));
     }
     let made = pages_of(&rt, alloc, plan, 1).or_fail(&rt);
-    let mut queue = Queued::new(alloc, made, 4);
-    end(&mut page, service, &mut queue, 20);
-    page.tell(queue.kept().len());
+    let (provider, _recorders, readers) = service.into_seats();
+    let service = Whole::builder(provider, readers, Runs::new());
+    let Err(left) = service.tell(alloc, "new", made, 1) else {
+        panic!(rt; "told");
+    };
+    page.say(left.fault);
+    let service = left.builder.tell(alloc, "all", left.exporter, 1);
+    let service = service.map_err(ServiceFault::from).or_fail(&rt);
+    let Err((mut service, untold)) = service.build() else {
+        panic!(rt; "built");
+    };
+    page.say(untold);
+    assert!(rt; service.ignore("new") && !service.ignore("new"));
+    let again = service.tell(alloc, "all", KeepingExporter::new(alloc), 1);
+    page.answer(again.map(|_| ()).map_err(|left| left.fault));
     page.assert(TAKEN);
 }
 
@@ -285,4 +296,61 @@ fn lines_are_of_their_reader(rt: HostRuntime) {
     let mut exporter = TextExporter::of(lines, CutSink::new(alloc, None));
     let told = exporter.export(alloc, plan, &batch);
     assert_equal(&rt, told, Err(ExportFault::OtherReader));
+}
+
+// The pages of a reader over three runs, of which the last is quiet, each after a flush and after the roll-over; and how
+// often the other one's batches went out, are kept, and how many points they had: one for each recording.
+const RUNS: &str = "5, 5; 7, 7; none, none; (3, 0)
+[(10, 1), (30, 1), (50, 0)]
+";
+
+// A recording in the first two of three runs: a delta reader has a queue over an exporter that fails at times, and a
+// cumulative one a page.
+fn tell_runs<R: Abort + Wait>(page: &mut Page<'_, R>, queue: &mut Queued<Failing>) {
+    let (provider, mut recorders, readers) = Service::new(
+        page.rt, page.alloc, ONE, BOTH, 1,
+    ).into_seats();
+    let service = Whole::builder(provider, readers, runs_after(1));
+    let made = pages_of(page.rt, page.alloc, service.plan(), 1).or_fail(page.rt);
+    let service = service.tell(page.alloc, "new", &mut *queue, 1);
+    let service = service.map_err(ServiceFault::from).or_fail(page.rt);
+    let service = service.tell(page.alloc, "all", made, 1);
+    let service = service.map_err(ServiceFault::from).or_fail(page.rt).build();
+    let mut service = service.map_err(ServiceFault::from).or_fail(page.rt);
+    for (value, now) in [(Some(5), 10), (Some(7), 30), (None, 50)] {
+        if let (Some(value), Some(recorder)) = (value, recorders.first_mut()) {
+            let answer = recorder.record(page.rt, service.provider(), 0, &[], value);
+            answer.or_fail(page.rt);
+        }
+        service.force_flush(page.rt, page.alloc, now);
+        let shelf = service.outlets().1.exporter().pages();
+        page.push(value_on(shelf));
+        page.push(", ");
+        let next = service.roll_over(page.rt, page.alloc, recorders, now + 10);
+        let next = next.or_fail(page.rt);
+        (service, recorders) = (next.service, next.recorders);
+        page.push(value_on(service.outlets().1.exporter().pages()));
+        page.push("; ");
+    }
+}
+
+// The value on a page.
+fn value_on(shelf: &Shelf) -> &'static str {
+    let page = str::from_utf8(shelf.page.as_slice()).unwrap_or("");
+    for (line, value) in [("} 5\n", "5"), ("} 7\n", "7")] {
+        if page.contains(line) {
+            return value;
+        }
+    }
+    "none"
+}
+
+#[test]
+fn each_reader_has_its_own_way_out(rt: HostRuntime) {
+    let mut page = Page::new(&rt, rt.alloc());
+    let mut queue = Queued::new(rt.alloc(), failing_at(rt.alloc(), &[1, 2, 4]), 4);
+    tell_runs(&mut page, &mut queue);
+    page.tell((queue.sent(), queue.kept().len()));
+    page.tell(queue.inner().taken.as_slice());
+    page.assert(RUNS);
 }

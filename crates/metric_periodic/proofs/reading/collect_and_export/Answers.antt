@@ -9,7 +9,7 @@ returns-clause-collected g c = record {
     between = c.hand_on_collected.new.self;
     settled = c.retry_where.new.self;
     exported = c.hand_on_collected.ensures;
-    retried = rw (← c.is_woken.ensures) c.retry_where.ensures;
-    flushed = c.flush.ensures;
+    retried = rw (← c.is_retried-is_due.ensures) c.retry_where.ensures;
+    flushed = c.flush-counted.ensures.0;
   };
 }

@@ -12,5 +12,5 @@ returns-clause-run g c = record {
   collects_at = rw (← c.moment.ensures) c.collect_last_at-collected.ensures;
   before_retry = c.hand_on_collected.new.self;
   exported = c.hand_on_collected.ensures;
-  retried = c.retry.ensures;
+  retried = c.retry-told.ensures.0;
 }

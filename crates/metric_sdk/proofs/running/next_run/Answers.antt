@@ -1,0 +1,16 @@
+-- the outlets begin the next run, and the rest is handed on
+use Rattle.std.proofs.Common.{◌∙◌, refl}
+use Rattle.metric_sdk.proofs.running.next_run.Goals as goal
+
+pub returns-then-are_exported-clause-next : goal.returns-then-are_exported-clause-next
+returns-then-are_exported-clause-next g c = (
+  rw c.service_of.ensures (record {
+    counted = rw c.deref.ensures.value at (c.are_counted-is_counted.ensures.counted c.if-is_counted.true);
+    left = c.begin_each-each.new.seats.items;
+    are_there = c.begin_each-each.result;
+    outlets = c.begin_each-each.ensures;
+    runs_are = c.next-given.ensures.given ∙ c.next-given.ensures.number;
+    provider_is = refl;
+  }),
+  (refl, refl),
+)
