@@ -42,9 +42,9 @@ func Example() {
 	german.Add(1)
 	err = orders.TryAdd(1, wormweekly.String("country", "uk"))
 	fmt.Println(errors.Is(err, wormweekly.ErrAttributes), orders.Refused()) // not counted
-	totals, err := metrics.RollOver(time.Now())                             // and the next run begins, in the same seats
+	ended, err := metrics.RollOver(time.Now())                              // and the next run begins, in the same seats
 	check(err)
-	fmt.Println(totals[0].Sum, "in", totals[0].Count, "recordings")
+	fmt.Println(ended.Totals[0].Sum, "in", ended.Totals[0].Count, "recordings")
 	// Output:
 	// true map[UnknownValue:1]
 	// 3 in 2 recordings

@@ -147,9 +147,6 @@ func openHandles(of *texts) (*handles, uint32, string) {
 
 // Opens the next run of the plan, in room for as much as there is of this one.
 func (own *handles) next(start uint64) (*handles, uint32) {
-	if own.counts.recorders == 0 {
-		return nil, answerUnknownRecorder
-	}
 	next := &handles{counts: own.counts}
 	next.makeRoom()
 	var counts C.wormweekly_counts

@@ -2,6 +2,7 @@ package wormweekly
 
 import (
 	"fmt"
+	"math"
 	"strings"
 	"sync"
 	"sync/atomic"
@@ -64,7 +65,7 @@ func Open(catalogue, config string, options ...Option) (*Metrics, error) {
 	case answer != answerDone:
 		return nil, errorOf(answer)
 	}
-	return newMetrics(&run{handles: own}), nil
+	return newMetrics(&run{handles: own}, warnings(own)), nil
 }
 
 // Lint answers the remarks that "wormweekly lint" has on a catalogue and a config, a line each with its place: what looks like
@@ -81,7 +82,7 @@ func Lint(catalogue, config string) ([]string, error) {
 	return strings.FieldsFunc(text, func(one rune) bool { return one == '\n' }), nil
 }
 
-func newMetrics(own *run) *Metrics {
+func newMetrics(own *run, warnings string) *Metrics {
 	handles := own.handles
 	for number := 0; number < int(handles.counts.instruments); number++ {
 		own.instruments = append(own.instruments, &Instrument{run: own, number: number,
@@ -96,7 +97,7 @@ func newMetrics(own *run) *Metrics {
 		own.readers = append(own.readers, &Reader{run: own, number: number, name: name(handles, readerName, number)})
 	}
 	return &Metrics{Instruments: copied(own.instruments), Recorders: copied(own.recorders), Readers: copied(own.readers),
-		Warnings: warnings(handles), run: own}
+		Warnings: warnings, run: own}
 }
 
 // The lists of a run stay as they are, whatever is done to those that it gives.
@@ -138,35 +139,101 @@ func (metrics *Metrics) Settle() ([]Total, error) {
 	return own.settle()
 }
 
+// PartLeft is how much is left of all that may be recorded on an instrument, budgets and spare: the least part that any has, from
+// 1 to 0. Roll over in time: past it, recordings are refused.
+func (metrics *Metrics) PartLeft() (float64, error) {
+	least := 1.0
+	for _, instrument := range metrics.run.instruments {
+		part, err := instrument.partLeft()
+		if err != nil {
+			return 0, err
+		}
+		least = math.Min(least, part)
+	}
+	return least, nil
+}
+
+func (instrument *Instrument) partLeft() (float64, error) {
+	spare, err := instrument.Spare()
+	most, left := float64(spare.Declared), float64(spare.Left)
+	for _, recorder := range instrument.run.recorders {
+		if err != nil {
+			return 0, err
+		}
+		var own Budget
+		own, err = recorder.Budget(instrument)
+		most, left = most+float64(own.Declared), left+float64(own.Left)
+	}
+	if most == 0 {
+		return 1, err
+	}
+	return left / most, err
+}
+
+// Ended is a run that has ended, with the total of each instrument, in order. Its instruments are closed; its readers collect
+// them as they would have.
+type Ended struct {
+	*Metrics
+	Totals []Total
+}
+
 // RollOver ends the run, and begins the next one of the same plan in its place: with budgets as declared, nothing
-// counted, and all instruments open. Seats and bound sets go on in it. What readers did not collect before is in the
-// totals alone, which are those of the run that ended. Refused, all is as before.
-func (metrics *Metrics) RollOver(start time.Time) ([]Total, error) {
+// counted, and all instruments open. Seats and bound sets go on in it, and a recording waits no longer than it takes to settle.
+// The run that ended is answered: let each of its readers collect a last time, so that nothing is lost. Refused, all is as
+// before.
+func (metrics *Metrics) RollOver(start time.Time) (*Ended, error) {
 	own := metrics.run
 	for _, reader := range own.readers {
 		reader.mutex.Lock()
 		defer reader.mutex.Unlock()
 	}
-	own.stop()
-	defer own.goOn()
-	totals, err := own.settle()
+	// All memory is taken before recordings wait.
+	next, err := own.next(start)
 	if err != nil {
 		return nil, err
 	}
-	next, answer := own.handles.next(nanoseconds(start))
-	if answer != answerDone {
-		return nil, errorOf(answer)
+	before, totals, err := own.change(next)
+	if err != nil {
+		next.free()
+		return nil, err
 	}
-	own.handles.free()
-	own.handles = next
+	ended := &run{handles: before}
+	ended.tell.Store(own.tell.Load())
+	for number := range own.instruments {
+		closeInstrument(before, number) // one that is closed stays closed
+	}
+	return &Ended{newMetrics(ended, metrics.Warnings), totals}, nil
+}
+
+// Opens the next run, by the first recorder.
+func (own *run) next(start time.Time) (*handles, error) {
+	if len(own.recorders) == 0 {
+		return nil, errorOf(answerUnknownRecorder)
+	}
+	own.recorders[0].mutex.Lock()
+	defer own.recorders[0].mutex.Unlock()
+	next, answer := own.handles.next(nanoseconds(start))
+	return next, errorOf(answer)
+}
+
+// Where all of the run is settled, it gives place to the next one.
+func (own *run) change(next *handles) (before *handles, totals []Total, err error) {
+	own.stop()
+	defer own.goOn()
+	if totals, err = own.settle(); err != nil {
+		return nil, nil, err
+	}
+	before, own.handles = own.handles, next
 	own.number++
 	for _, instrument := range own.instruments {
 		instrument.spent.Store(0)
 	}
 	for _, recorder := range own.recorders {
-		recorder.kept = make([]uint64, len(own.instruments))
+		for at := range recorder.kept {
+			recorder.kept[at] = 0
+		}
 	}
-	return totals, nil
+	return before, totals, nil
 }
 
 // Waits for all recorders and instruments, and keeps them.

@@ -196,7 +196,7 @@ func TestARollOverBeginsAnew(t *testing.T) {
 		if run == 1 {
 			done(t, requests.Close())
 		}
-		total := must(metrics.RollOver(time.Now()))(t)[0]
+		total := must(metrics.RollOver(time.Now()))(t).Totals[0]
 		if total.Count != 5 || total.Sum.Int64() != 15 {
 			t.Errorf("%v", total)
 		}
@@ -321,9 +321,9 @@ func TestAllAtOnce(t *testing.T) {
 		}()
 	}
 	again(func() error {
-		totals, err := metrics.RollOver(time.Now())
+		ended, err := metrics.RollOver(time.Now())
 		if err == nil {
-			counted += totals[0].Count
+			counted += ended.Totals[0].Count
 		}
 		return err
 	})

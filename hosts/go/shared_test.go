@@ -6,6 +6,7 @@ import (
 	"reflect"
 	"strings"
 	"sync"
+	"sync/atomic"
 	"testing"
 	"time"
 )
@@ -187,7 +188,7 @@ func TestWhatIsCountedInIsCountedOut(t *testing.T) {
 func TestWhatGoesOverIsCountedOutInNoRun(t *testing.T) {
 	metrics, _, _, _ := opened(t)
 	out := must(metrics.Instrument("in_flight"))(t).InFlight()
-	equal(t, must(metrics.RollOver(at(1)))(t)[1].Sum.Int64(), int64(1))
+	equal(t, must(metrics.RollOver(at(1)))(t).Totals[1].Sum.Int64(), int64(1))
 	out()
 	equal(t, totalsOf(t, metrics)[1].Count, uint64(0))
 }
@@ -214,7 +215,7 @@ func TestRunsGoOverUnderTraffic(t *testing.T) {
 	}
 	settled := uint64(0)
 	for start := int64(1); start < 30; start++ {
-		settled += must(metrics.RollOver(at(start)))(t)[0].Count
+		settled += must(metrics.RollOver(at(start)))(t).Totals[0].Count
 		time.Sleep(time.Millisecond)
 	}
 	close(over)
@@ -222,6 +223,66 @@ func TestRunsGoOverUnderTraffic(t *testing.T) {
 		settled -= <-made
 	}
 	equal(t, settled+totalsOf(t, metrics)[0].Count, uint64(0))
+}
+
+// What the points of the first stream of a batch add up to.
+func sumOf(batch Batch) (sum uint64) {
+	for _, point := range batch.Streams[0].Points {
+		sum += uint64(point.Value.(Sum))
+	}
+	return sum
+}
+
+func TestEachRecordingIsCollectedOnce(t *testing.T) {
+	metrics, _, _, requests := opened(t)
+	bound := must(requests.Bind(home...))(t)
+	made, working := [4]uint64{}, int32(4)
+	var waiting sync.WaitGroup
+	for number := range made {
+		waiting.Add(1)
+		go func(own *uint64) {
+			defer waiting.Done()
+			defer atomic.AddInt32(&working, -1)
+			for tried := 0; tried < 30_000; tried++ {
+				if bound.TryAdd(1) == nil {
+					*own++
+				}
+			}
+		}(&made[number])
+	}
+	// All that cumulative and delta readers collect. The first ones give it all again, so they are asked at the end alone.
+	var all, new, runs uint64
+	collect := func(metrics *Metrics, isEnded bool) {
+		new += sumOf(must(metrics.Readers[1].Collect(metrics.Instruments[0], time.Now()))(t))
+		if isEnded {
+			all += sumOf(must(metrics.Readers[0].Collect(metrics.Instruments[0], time.Now()))(t))
+		}
+	}
+	for ; atomic.LoadInt32(&working) > 0; runs++ {
+		collect(metrics, false)
+		collect(must(metrics.RollOver(time.Now()))(t).Metrics, true)
+	}
+	waiting.Wait()
+	collect(must(metrics.RollOver(time.Now()))(t).Metrics, true)
+	counted := made[0] + made[1] + made[2] + made[3]
+	equal(t, [2]uint64{all, new}, [2]uint64{counted, counted})
+	equal(t, counted > 100_000 && runs > 10, true)
+}
+
+func TestARunThatHasEnded(t *testing.T) {
+	metrics, _, _, requests := opened(t)
+	requests.Add(3, home...)
+	equal(t, must(metrics.PartLeft())(t), 200_004.0/200_005)
+	ended := must(metrics.RollOver(at(5)))(t)
+	equal(t, must(ended.Settle())(t), ended.Totals)
+	equal(t, sumOf(must(ended.Readers[0].Collect(ended.Instruments[0], at(6)))(t)), uint64(3))
+	if err := ended.Instruments[0].TryAdd(1, home...); !errors.Is(err, ErrClosed) {
+		t.Error(err)
+	}
+	equal(t, must(metrics.PartLeft())(t), 1.0)
+	if _, err := metrics.Readers[0].Collect(ended.Instruments[0], at(6)); !errors.Is(err, ErrStranger) {
+		t.Error(err)
+	}
 }
 
 func TestARecorderWaitsForAnInstrument(t *testing.T) {

@@ -33,5 +33,5 @@ french.add(1)
 orders.add(1, {"country": "uk"})  # not counted: it is logged once, or raised where the run is strict
 print(f"refused: {orders.refused}")
 print(metrics.reader("console").text(orders, 1_000), end="")
-for total in metrics.roll_over():  # and the next run begins, in the same seats
+for total in metrics.roll_over().totals:  # and the next run begins, in the same seats
     print(f"settled: {total.sum} in {total.count} recordings")

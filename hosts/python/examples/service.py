@@ -113,7 +113,7 @@ def main(catalogue: str, config: str) -> None:
     for collector in collectors:
         collector.end()
     durations = metrics.reader("all").collect(metrics.instrument("http.request.duration"))
-    compare(metrics, workers, metrics.roll_over())
+    compare(metrics, workers, metrics.roll_over().totals)
     value = durations.streams[0].points[0].value
     assert isinstance(value, Buckets)
     print(f"{durations.streams[0].name}: {value.count} in {value.counts}")

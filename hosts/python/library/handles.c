@@ -108,9 +108,19 @@ static uint32_t open_lists(Lists *lists, const Texts *texts, const Fault *fault)
     return answer;
 }
 
+/* Makes what stands beside the handles of a run. */
+static int has_locks(Handles *own) {
+    const wormweekly_counts *counts = &own->lists.counts;
+    own->instrument_locks = new_locks(counts->instruments, PTHREAD_MUTEX_DEFAULT);
+    own->recorder_locks = new_locks(counts->recorders, PTHREAD_MUTEX_DEFAULT);
+    own->reader_locks = new_locks(counts->readers, PTHREAD_MUTEX_ERRORCHECK);
+    own->spent = calloc(counts->instruments + 1, sizeof *own->spent);
+    own->kept = calloc(counts->instruments * counts->recorders + 1, sizeof *own->kept);
+    return own->instrument_locks && own->recorder_locks && own->reader_locks && own->spent && own->kept;
+}
+
 uint32_t handles_open(Handles *own, const Texts *texts, uint8_t *fault, size_t room, size_t *length) {
     const Fault told = { fault, room, length };
-    const wormweekly_counts *counts = &own->lists.counts;
     uint32_t answer;
     pthread_once(&forks_are_counted, count_forks);
     own->born = atomic_load(&forks);
@@ -118,14 +128,7 @@ uint32_t handles_open(Handles *own, const Texts *texts, uint8_t *fault, size_t r
     if (answer != WORMWEEKLY_DONE) {
         return answer;
     }
-    own->instrument_locks = new_locks(counts->instruments, PTHREAD_MUTEX_DEFAULT);
-    own->recorder_locks = new_locks(counts->recorders, PTHREAD_MUTEX_DEFAULT);
-    own->reader_locks = new_locks(counts->readers, PTHREAD_MUTEX_ERRORCHECK);
-    own->spent = calloc(counts->instruments + 1, sizeof *own->spent);
-    own->kept = calloc(counts->instruments * counts->recorders + 1, sizeof *own->kept);
-    return own->instrument_locks && own->recorder_locks && own->reader_locks && own->spent && own->kept
-               ? WORMWEEKLY_DONE
-               : WORMWEEKLY_MEMORY;
+    return has_locks(own) ? WORMWEEKLY_DONE : WORMWEEKLY_MEMORY;
 }
 
 void handles_free(Handles *own) {
@@ -165,38 +168,42 @@ uint32_t handles_settle(Handles *own, size_t instrument, wormweekly_total *total
     return answer;
 }
 
-/* Opens the next run of the plan in room for as much as there is of this one. */
-static uint32_t open_next(const Lists *lists, uint64_t start, Lists *next) {
+/* Opens the next run of the plan, by its first recorder, in room for as much as there is of this one. */
+static uint32_t open_next(Handles *own, uint64_t start, Lists *next) {
     wormweekly_counts counts;
-    next->counts = lists->counts;
-    if (lists->counts.recorders == 0) {
+    uint32_t answer;
+    next->counts = own->lists.counts;
+    if (next->counts.recorders == 0) {
         return WORMWEEKLY_UNKNOWN_RECORDER;
     }
     if (!make_room(next)) {
         return WORMWEEKLY_MEMORY;
     }
-    return wormweekly_next(&lists->recorders[0], start, next->instruments, next->counts.instruments, next->recorders,
-                           next->counts.recorders, next->readers, next->counts.readers, &counts);
+    pthread_mutex_lock(&own->recorder_locks[0]);
+    answer = wormweekly_next(&own->lists.recorders[0], start, next->instruments, next->counts.instruments,
+                             next->recorders, next->counts.recorders, next->readers, next->counts.readers, &counts);
+    unlock(&own->recorder_locks[0]);
+    return answer;
 }
 
-/* Under all mutexes: the next run takes the place of this one where all is settled. */
-static uint32_t roll_over(Lists *lists, uint64_t start, wormweekly_total *totals) {
-    Lists next = { 0 };
-    uint32_t answer = WORMWEEKLY_DONE;
-    for (size_t at = 0; answer == WORMWEEKLY_DONE && at < lists->counts.instruments; at++) {
-        answer = wormweekly_settle(&lists->instruments[at], lists->recorders, lists->counts.recorders, &totals[at]);
+/* Where all of a run is settled, it changes places with the next one. */
+static uint32_t change(Handles *own, Handles *next, wormweekly_total *totals) {
+    const wormweekly_counts counts = own->lists.counts;
+    const Lists before = own->lists;
+    for (size_t at = 0; at < counts.instruments; at++) {
+        uint32_t answer = wormweekly_settle(&before.instruments[at], before.recorders, counts.recorders, &totals[at]);
+        if (answer != WORMWEEKLY_DONE) {
+            return answer;
+        }
     }
-    if (answer == WORMWEEKLY_DONE) {
-        answer = open_next(lists, start, &next);
+    own->lists = next->lists;
+    next->lists = before;
+    own->runs++;
+    for (size_t at = 0; at < counts.instruments; at++) {
+        own->spent[at] = 0;
     }
-    if (answer == WORMWEEKLY_DONE) {
-        Lists before = *lists;
-        *lists = next;
-        next = before;
-    }
-    free_handles(&next);
-    free_lists(&next);
-    return answer;
+    memset(own->kept, 0, counts.instruments * counts.recorders * sizeof *own->kept);
+    return WORMWEEKLY_DONE;
 }
 
 /* Locks all readers, but where this very thread has one, none. */
@@ -210,25 +217,29 @@ static int lock_readers(Handles *own) {
     return 1;
 }
 
-uint32_t handles_roll_over(Handles *own, uint64_t start, wormweekly_total *totals) {
+/* All memory is taken before recordings wait. */
+uint32_t handles_roll_over(Handles *own, uint64_t start, wormweekly_total *totals, Handles *ended) {
     const wormweekly_counts counts = own->lists.counts;
     uint32_t answer;
+    ended->born = own->born;
     if (!lock_readers(own)) {
         return HANDLES_IN_USE;
     }
-    lock_all(own->recorder_locks, counts.recorders);
-    lock_all(own->instrument_locks, counts.instruments);
-    answer = roll_over(&own->lists, start, totals);
-    if (answer == WORMWEEKLY_DONE) {
-        own->runs++;
-        for (size_t at = 0; at < counts.instruments; at++) {
-            own->spent[at] = 0;
-        }
-        memset(own->kept, 0, counts.instruments * counts.recorders * sizeof *own->kept);
+    answer = open_next(own, start, &ended->lists);
+    if (answer == WORMWEEKLY_DONE && !has_locks(ended)) {
+        answer = WORMWEEKLY_MEMORY;
     }
-    unlock_all(own->instrument_locks, counts.instruments);
-    unlock_all(own->recorder_locks, counts.recorders);
+    if (answer == WORMWEEKLY_DONE) {
+        lock_all(own->recorder_locks, counts.recorders);
+        lock_all(own->instrument_locks, counts.instruments);
+        answer = change(own, ended, totals);
+        unlock_all(own->instrument_locks, counts.instruments);
+        unlock_all(own->recorder_locks, counts.recorders);
+    }
     unlock_all(own->reader_locks, counts.readers);
+    for (size_t at = 0; answer == WORMWEEKLY_DONE && at < counts.instruments; at++) {
+        wormweekly_close(&ended->lists.instruments[at]); /* one that is closed stays closed */
+    }
     return answer;
 }
 

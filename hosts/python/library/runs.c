@@ -247,24 +247,49 @@ static PyObject *totals_of(const wormweekly_total *totals, size_t count) {
     return made;
 }
 
-/* The totals of all instruments, as `settle` tells one; what is recorded from then on is of the next run. */
+/* A run that tells as this one does, in which one that ended may stand. */
+static Run *run_beside(Run *self) {
+    Run *made = empty_run(Py_TYPE((PyObject *)self));
+    if (made == NULL) {
+        return NULL;
+    }
+    made->is_strict = self->is_strict;
+    made->tell = Py_NewRef(self->tell);
+    made->handles.lists.counts = self->handles.lists.counts;
+    if (!has_counts(made)) {
+        Py_CLEAR(made);
+    }
+    return made;
+}
+
+static PyObject *roll_into(Run *self, uint64_t start, Run *ended, wormweekly_total *totals) {
+    uint32_t answer;
+    Py_BEGIN_ALLOW_THREADS
+    answer = handles_roll_over(&self->handles, start, totals, &ended->handles);
+    Py_END_ALLOW_THREADS
+    return answer == WORMWEEKLY_DONE
+               ? Py_BuildValue("(ON)", ended, totals_of(totals, self->handles.lists.counts.instruments))
+               : refuse(self, answer);
+}
+
+/* (the run that ended, its totals, as `settle` tells one); what is recorded from then on is of the next run. */
 static PyObject *roll_over(Run *self, PyObject *start) {
-    size_t count = self->handles.lists.counts.instruments;
     uint64_t from;
     wormweekly_total *totals;
-    uint32_t answer;
-    PyObject *made;
+    Run *ended;
+    PyObject *made = NULL;
     if (!read_unsigned(self, start, &from, WRONG_CLOCK) || !is_whole(self)) {
         return NULL;
     }
-    totals = calloc(count + 1, sizeof *totals);
+    totals = calloc(self->handles.lists.counts.instruments + 1, sizeof *totals);
     if (totals == NULL) {
         return PyErr_NoMemory();
     }
-    Py_BEGIN_ALLOW_THREADS
-    answer = handles_roll_over(&self->handles, from, totals);
-    Py_END_ALLOW_THREADS
-    made = answer == WORMWEEKLY_DONE ? totals_of(totals, count) : refuse(self, answer);
+    ended = run_beside(self);
+    if (ended != NULL) {
+        made = roll_into(self, from, ended, totals);
+    }
+    Py_XDECREF((PyObject *)ended);
     free(totals);
     return made;
 }

@@ -153,7 +153,7 @@ class Batches(unittest.TestCase):
             self.assertEqual(self.all.collect(requests).streams[0].points[0].value, Sum(15))
             if runs == 1:
                 requests.close()
-            self.assertEqual(self.metrics.roll_over()[0], Total(5, 15))
+            self.assertEqual(self.metrics.roll_over().totals[0], Total(5, 15))
         batch = self.all.collect(requests)
         self.assertEqual(batch.streams[0].points, ())
         self.assertGreater(batch.start, 0)

@@ -2,6 +2,7 @@
 
 import logging
 import os
+import sys
 import threading
 import unittest
 from collections.abc import Callable
@@ -10,6 +11,7 @@ from typing import Any
 from tests.plans import CATALOGUE, CONFIG, HOME, opened
 from wormweekly import (
     AttributeRefusal,
+    Batch,
     Buckets,
     BudgetRefusal,
     ClosedRefusal,
@@ -19,6 +21,7 @@ from wormweekly import (
     RangeRefusal,
     Refusal,
     Spare,
+    StrangerRefusal,
     Sum,
     Total,
 )
@@ -32,6 +35,11 @@ def repeat(count: int, instrument: Instrument) -> None:
     """Records so often."""
     for _ in range(count):
         instrument.record(1)
+
+
+def sum_of(batch: Batch) -> int:
+    """What the points of its first stream add up to."""
+    return sum(point.value.value for point in batch.streams[0].points if isinstance(point.value, Sum))
 
 
 def run_all(count: int, work: Callable[[], object]) -> None:
@@ -199,7 +207,7 @@ class Shared(unittest.TestCase):
     def test_a_block_that_goes_over_is_counted_out_in_no_run(self) -> None:
         in_flight = self.metrics.instrument("in_flight")
         with in_flight.in_flight():
-            self.assertEqual(self.metrics.roll_over(1)[1], Total(1, 1))
+            self.assertEqual(self.metrics.roll_over(1).totals[1], Total(1, 1))
         self.assertEqual(self.metrics.settle()[1], Total(0, 0))
 
     def test_runs_go_over_under_traffic(self) -> None:
@@ -215,12 +223,54 @@ class Shared(unittest.TestCase):
         threads = [threading.Thread(target=work) for _ in range(4)]
         for thread in threads:
             thread.start()
-        settled = sum(self.metrics.roll_over(start)[0].count for start in range(1, 30))
+        settled = sum(self.metrics.roll_over(start).totals[0].count for start in range(1, 30))
         is_over.set()
         for thread in threads:
             thread.join()
         settled += self.metrics.settle()[0].count
         self.assertEqual(settled + self.requests.refused.get("Budget", 0), sum(made))
+
+    def test_each_recording_is_collected_once(self) -> None:
+        # A service of four threads whose readers collect now and then, and after each end of a run.
+        bound, seen, runs = self.requests.bind(HOME), [0, 0], 0
+        all_of, new = self.metrics.readers
+
+        def collect(metrics: Metrics, is_ended: bool) -> None:
+            seen[1] += sum_of(metrics.readers[new.number].collect(metrics.instruments[0]))
+            if is_ended:
+                seen[0] += sum_of(metrics.readers[all_of.number].collect(metrics.instruments[0]))
+
+        def work() -> None:
+            for _ in range(30_000):
+                bound.add(1)
+
+        interval = sys.getswitchinterval()
+        sys.setswitchinterval(1e-5)
+        threads = [threading.Thread(target=work) for _ in range(4)]
+        for thread in threads:
+            thread.start()
+        while any(thread.is_alive() for thread in threads):
+            collect(self.metrics, False)
+            collect(self.metrics.roll_over(), True)
+            runs += 1
+        sys.setswitchinterval(interval)
+        collect(self.metrics.roll_over(), True)
+        refused = self.requests.refused.get("Budget", 0)
+        self.assertEqual(seen, [120_000 - refused] * 2)
+        self.assertGreater(runs, 10)
+
+    def test_a_run_that_has_ended(self) -> None:
+        self.requests.add(3, HOME)
+        self.assertEqual(self.metrics.part_left(), 200_004 / 200_005)
+        ended = self.metrics.roll_over(5)
+        self.assertEqual((ended.totals[0], ended.settle()), (Total(1, 3), ended.totals))
+        self.assertEqual(sum_of(ended.readers[0].collect(ended.instruments[0])), 3)
+        self.assertIn(b"requests_total{", ended.page(ended.readers[0]))
+        ended.instruments[0].add(1, HOME)
+        self.assertEqual(ended.instruments[0].refused, {"Closed": 1})
+        self.assertEqual((self.metrics.settle()[0], self.metrics.part_left()), (Total(0, 0), 1.0))
+        with self.assertRaises(StrangerRefusal):
+            self.metrics.readers[0].collect(ended.instruments[0])
 
     @unittest.skipUnless(hasattr(os, "fork"), "there is no fork")
     def test_after_a_fork_the_child_goes_on_without_counting(self) -> None:

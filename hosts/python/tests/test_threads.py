@@ -106,7 +106,7 @@ class Threads(unittest.TestCase):
         worker = threading.Thread(target=work)
         worker.start()
         while worker.is_alive():
-            totals.append(self.metrics.roll_over()[0].count)
+            totals.append(self.metrics.roll_over().totals[0].count)
         worker.join()
         self.assertEqual(sum(totals) + self.metrics.settle()[0].count, made)
 

@@ -44,11 +44,11 @@ func run(cataloguePath, configPath string) error {
 			return err
 		}
 	}
-	totals, err := metrics.RollOver(time.Now())
+	ended, err := metrics.RollOver(time.Now())
 	if err != nil {
 		return err
 	}
-	if err := compare(metrics, workers, totals); err != nil {
+	if err := compare(metrics, workers, ended.Totals); err != nil {
 		return err
 	}
 
@@ -66,7 +66,8 @@ func run(cataloguePath, configPath string) error {
 		}
 		seen += one.requests
 	}
-	if totals, err = metrics.Settle(); err != nil {
+	totals, err := metrics.Settle()
+	if err != nil {
 		return err
 	}
 	fmt.Printf("requests that the delta reader saw: %d\n", seen)

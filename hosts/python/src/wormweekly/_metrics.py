@@ -264,15 +264,18 @@ class Metrics:
         run raises each refusal of a recording; else these are counted, and logged once for each reason."""
         teller = Teller()
         run = _library.Run(catalogue, config, certificate, time.time_ns() if start is None else start, strict, teller)
-        instruments, recorders, readers = map(range, run.counts())
         self = cls()
+        self._fill(run, run.warnings())
+        teller.names += (one.name for one in self.instruments)
+        return self
+
+    def _fill(self, run: _library.Run, warnings: str) -> None:
+        instruments, recorders, readers = map(range, run.counts())
         self._run = run
         self.instruments = tuple(_instrument(run, number) for number in instruments)
-        teller.names += (one.name for one in self.instruments)
         self.recorders = tuple(_recorder(run, number) for number in recorders)
         self.readers = tuple(_reader(run, number) for number in readers)
-        self.warnings = run.warnings()
-        return self
+        self.warnings = warnings
 
     def instrument(self, name: str) -> Instrument:
         """The instrument of this name, where there is exactly one."""
@@ -305,12 +308,35 @@ class Metrics:
         page += [] if dialect is Dialect.TEXT else [b"# EOF\n"]
         return b"".join(page)
 
-    def roll_over(self, start: int | None = None) -> tuple[Total, ...]:
+    def part_left(self) -> float:
+        """How much is left of all that may be recorded on an instrument, budgets and spare: the least part that any has,
+        from 1.0 to 0.0. Roll over in time: past it, recordings are refused."""
+        return min((self._part_left_of(one) for one in self.instruments), default=1.0)
+
+    def _part_left_of(self, instrument: Instrument) -> float:
+        kinds: list[Budget | Spare] = [recorder.budget(instrument) for recorder in self.recorders]
+        kinds.append(instrument.spare())
+        most = sum(own.declared for own in kinds)
+        return sum(own.left for own in kinds) / most if most > 0 else 1.0
+
+    def roll_over(self, start: int | None = None) -> Ended:
         """Ends the run, and begins the next one of the same plan in its place, since a time in nanoseconds, or now:
-        with budgets as declared, nothing counted, and all instruments open. Seats and bound sets go on in it. What
-        readers did not collect before is in the totals alone, which are those of the run that ended."""
-        told = self._run.roll_over(time.time_ns() if start is None else start)
-        return tuple(_total(*one) for one in told)
+        with budgets as declared, nothing counted, and all instruments open. Seats and bound sets go on in it, and a
+        recording waits no longer than it takes to settle. The run that ended is answered: let each of its readers
+        collect a last time, so that nothing is lost. Refused, all is as before."""
+        run, totals = self._run.roll_over(time.time_ns() if start is None else start)
+        ended = Ended()
+        ended._fill(run, self.warnings)
+        ended.totals = tuple(_total(*one) for one in totals)
+        return ended
+
+
+class Ended(Metrics):
+    """A run that has ended, with the total of each instrument, in order. Its instruments are closed; its readers collect them
+    as they would have."""
+
+    __slots__ = ("totals",)
+    totals: tuple[Total, ...]
 
 
 _Seat = TypeVar("_Seat", Instrument, Recorder, Reader)
