@@ -13,7 +13,7 @@ from wormweekly import _library
 from wormweekly._library import Bound
 from wormweekly._batches import Batch, Value, batch_of
 
-from wormweekly._refusals import Refusal, Teller
+from wormweekly._refusals import ClosedRefusal, Refusal, Teller
 from wormweekly._scopes import Handler, InFlight, RecorderInFlight, RecorderTimer, Timer
 
 Attributes = Mapping[str, Value]
@@ -236,6 +236,9 @@ class Reader(_library.Reader):
         return f"<wormweekly.Reader {self._number} {self._name}>"
 
 
+_M = TypeVar("_M", bound="Metrics")
+
+
 class Metrics:
     """A run: the instruments of a certified plan, with a seat for each recorder and each reader, in declared order.
 
@@ -292,6 +295,21 @@ class Metrics:
     def settle(self) -> tuple[Total, ...]:
         """The total of each instrument, in order, each compared with what its recorders were told."""
         return tuple(_total(*self._run.settle(one.number)) for one in self.instruments)
+
+    def close(self) -> None:
+        """Ends the recordings of all instruments. They are collected and settled as before. At the end of a `with` it is
+        called."""
+        for instrument in self.instruments:
+            try:
+                instrument.close()
+            except ClosedRefusal:
+                continue
+
+    def __enter__(self: _M) -> _M:
+        return self
+
+    def __exit__(self, *unused: object) -> None:
+        self.close()
 
     def page(
         self,

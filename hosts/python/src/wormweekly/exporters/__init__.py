@@ -1,0 +1,1 @@
+"""What takes metrics out of a process."""
