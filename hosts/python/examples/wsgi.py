@@ -10,15 +10,16 @@ import sys
 import threading
 import urllib.error
 import urllib.request
-from collections.abc import Callable, Iterable
+from collections.abc import Iterable
 from socketserver import ThreadingMixIn
 from typing import TYPE_CHECKING
 from wsgiref.simple_server import WSGIRequestHandler, WSGIServer, make_server
 
-from wormweekly import Dialect, Metrics, Reader
+from wormweekly import Metrics
+from wormweekly.web import Measures, Wsgi
 
 if TYPE_CHECKING:
-    from wsgiref.types import StartResponse, WSGIApplication, WSGIEnvironment
+    from wsgiref.types import StartResponse, WSGIEnvironment
 
 CATALOGUE = """format = 1
 [[meter]]
@@ -53,44 +54,6 @@ name = 'prometheus'
 """
 
 
-class Metered:
-    """Measures an application, and answers /metrics itself. A request is served, whether it is counted or not."""
-
-    def __init__(self, application: WSGIApplication, metrics: Metrics) -> None:
-        self.application = application
-        self.metrics = metrics
-        self.reader: Reader = metrics.reader("prometheus")
-        self.requests = metrics.instrument("http.requests")
-        self.duration = metrics.instrument("http.duration")
-        self.in_flight = metrics.instrument("http.in_flight")
-        self.reader.expose()
-
-    def __call__(self, environ: WSGIEnvironment, start_response: StartResponse) -> Iterable[bytes]:
-        path = environ["PATH_INFO"]
-        if path == "/metrics":
-            return self.show(environ, start_response)
-        return self.measure(path, environ, start_response)
-
-    def show(self, environ: WSGIEnvironment, start_response: StartResponse) -> Iterable[bytes]:
-        dialect = Dialect.accepted(environ.get("HTTP_ACCEPT", ""))
-        body = self.metrics.page(self.reader, {"service.name": "shop"}, dialect=dialect)
-        start_response("200 OK", [("Content-Type", dialect.content_type), ("Content-Length", str(len(body)))])
-        return [body]
-
-    def measure(self, path: str, environ: WSGIEnvironment, start_response: StartResponse) -> Iterable[bytes]:
-        route = path if path in ("/", "/cart") else "other"
-        statuses: list[int] = []
-
-        def note(status: str, *rest: object) -> Callable[[bytes], object]:
-            statuses.append(int(status.split()[0]))
-            return start_response(status, *rest)  # type: ignore[arg-type]
-
-        with self.duration.time({"route": route}), self.in_flight.in_flight():
-            body = list(self.application(environ, note))
-        self.requests.add(1, {"route": route, "status": statuses[-1]})
-        return body
-
-
 def shop(environ: WSGIEnvironment, start_response: StartResponse) -> Iterable[bytes]:
     found = environ["PATH_INFO"] in ("/", "/cart")
     start_response("200 OK" if found else "404 Not Found", [("Content-Type", "text/plain")])
@@ -108,6 +71,14 @@ class Quiet(WSGIRequestHandler):
         pass
 
 
+def measured() -> Wsgi:
+    """The shop with what it takes to measure it."""
+    metrics = Metrics.open(CATALOGUE, CONFIG)
+    reader = metrics.reader("prometheus")
+    reader.expose()
+    return Wsgi(shop, Measures(metrics), page=lambda: metrics.page(reader, {"service.name": "shop"}))
+
+
 def get(url: str) -> str:
     try:
         with urllib.request.urlopen(url, timeout=5) as answer:
@@ -117,7 +88,7 @@ def get(url: str) -> str:
 
 
 def main(port: int | None) -> None:
-    server = make_server("127.0.0.1", port or 0, Metered(shop, Metrics.open(CATALOGUE, CONFIG)), Server, Quiet)
+    server = make_server("127.0.0.1", port or 0, measured(), Server, Quiet)
     if port is not None:
         server.serve_forever()
     threading.Thread(target=server.serve_forever, daemon=True).start()

@@ -131,6 +131,17 @@ uint32_t handles_open(Handles *own, const Texts *texts, uint8_t *fault, size_t r
     return has_locks(own) ? WORMWEEKLY_DONE : WORMWEEKLY_MEMORY;
 }
 
+uint32_t handles_open_anew(Handles *own, const Texts *texts, uint8_t *fault, size_t room, size_t *length) {
+    Handles made = { .runs = own->runs + 1 };
+    uint32_t answer = handles_open(&made, texts, fault, room, length);
+    if (answer == WORMWEEKLY_DONE) {
+        *own = made;
+    } else {
+        handles_free(&made);
+    }
+    return answer;
+}
+
 void handles_free(Handles *own) {
     if (handles_are_whole(own)) {
         free_handles(&own->lists);

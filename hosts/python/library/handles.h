@@ -84,6 +84,10 @@ int handles_lock(pthread_mutex_t *mutex);
 /* Opens a run. It is called once, without Python's lock, on what is all zero. */
 uint32_t handles_open(Handles *own, const Texts *texts, uint8_t *fault, size_t room, size_t *length);
 
+/* In the child of a fork: opens the run anew, in the place of one that the parent opened, whose handles are left as they are, since
+ * a thread that is not there may have been in the middle of them. Refused, all is as before. */
+uint32_t handles_open_anew(Handles *own, const Texts *texts, uint8_t *fault, size_t room, size_t *length);
+
 /* Ends the run and begins the next one in its place, without Python's lock. Writes the total of each instrument. What has ended,
  * with all instruments closed, takes the place of what is all zero. Refused, all is as before. */
 uint32_t handles_roll_over(Handles *own, uint64_t start, wormweekly_total *totals, Handles *ended);

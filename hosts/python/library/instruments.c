@@ -187,7 +187,58 @@ static PyObject *clamped(Seat *self, PyObject *unused) {
     return PyLong_FromUnsignedLongLong(self->clamped);
 }
 
+/* What the library answers to a key with a value alone; that it is done where no recording can tell more. */
+static int answer_of(Seat *self, PyObject *key, PyObject *value, uint32_t *answer) {
+    Run *run = self->run;
+    Given given;
+    wormweekly_prepared unused;
+    PyObject *one = PyDict_New();
+    if (one == NULL || PyDict_SetItem(one, key, value) < 0) {
+        Py_XDECREF(one);
+        return 0;
+    }
+    *answer = WORMWEEKLY_DONE;
+    if (!handles_are_whole(&run->handles)) {
+        Py_DECREF(one);
+        return 1;
+    }
+    if (read_attributes(run, one, &given)) {
+        *answer = handles_prepare(&run->handles, self->number, &given.own, &unused);
+    } else {
+        PyErr_Clear();
+    }
+    free_given(&given);
+    Py_DECREF(one);
+    return 1;
+}
+
+/* known_or(key, value, other) */
+static PyObject *known_or(Seat *self, PyObject *const *args, Py_ssize_t count) {
+    uint32_t answer;
+    if (!has_count(self->run, count, 3) || !answer_of(self, args[0], args[1], &answer)) {
+        return NULL;
+    }
+    if (answer != WORMWEEKLY_UNKNOWN_VALUE) {
+        return Py_NewRef(args[1]);
+    }
+    self->replaced++;
+    return Py_NewRef(args[2]);
+}
+
+static PyObject *declares(Seat *self, PyObject *key) {
+    uint32_t answer;
+    return answer_of(self, key, Py_False, &answer) ? PyBool_FromLong(answer != WORMWEEKLY_UNKNOWN_KEY) : NULL;
+}
+
+static PyObject *replaced(Seat *self, PyObject *unused) {
+    (void)unused;
+    return PyLong_FromUnsignedLongLong(self->replaced);
+}
+
 static PyMethodDef methods[] = {
+    { "known_or", (PyCFunction)(void (*)(void))known_or, METH_FASTCALL, NULL },
+    { "declares", (PyCFunction)declares, METH_O, NULL },
+    { "_replaced", (PyCFunction)replaced, METH_NOARGS, NULL },
     { "add", (PyCFunction)(void (*)(void))add, METH_FASTCALL, NULL },
     { "record", (PyCFunction)(void (*)(void))add, METH_FASTCALL, NULL },
     { "_refused", (PyCFunction)refused, METH_NOARGS, NULL },

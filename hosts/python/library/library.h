@@ -31,17 +31,17 @@ typedef struct {
     State *state;
     Handles handles;
     int is_strict;
-    PyObject *tell, *refused;
+    PyObject *tell, *refused, *weak;
 } Run;
 
 /* An instrument, a recorder or a reader of a run. The owner is the thread of a recorder, 0 before there is one; what is
-   clamped are durations on an instrument. */
+   clamped are durations on an instrument, what is replaced are values that it does not declare. */
 typedef struct {
     PyObject_HEAD
     Run *run;
     size_t number;
     unsigned long owner;
-    unsigned long long clamped;
+    unsigned long long clamped, replaced;
 } Seat;
 
 typedef struct {

@@ -2,15 +2,24 @@
 #include "library.h"
 
 #include <stdlib.h>
+#include <structmember.h>
 
-static PyObject *opened(Run *run, const Texts *texts) {
+typedef uint32_t (*Open)(Handles *own, const Texts *texts, uint8_t *fault, size_t room, size_t *length);
+
+static PyObject *opened(Run *run, const Texts *texts, Open open) {
     uint8_t fault[4096];
     size_t length = 0;
     uint32_t answer;
     Py_BEGIN_ALLOW_THREADS
-    answer = handles_open(&run->handles, texts, fault, sizeof fault, &length);
+    answer = open(&run->handles, texts, fault, sizeof fault, &length);
     Py_END_ALLOW_THREADS
     return answer == WORMWEEKLY_FAULT ? refuse_told(run, answer, fault, length, sizeof fault) : done(run, answer);
+}
+
+static int read_texts(Run *run, PyObject *const given[4], Texts *texts) {
+    return read_text(run, given[0], &texts->catalogue) && read_text(run, given[1], &texts->config) &&
+           (given[2] == Py_None || read_text(run, given[2], &texts->certificate)) &&
+           read_unsigned(run, given[3], &texts->start, WRONG_CLOCK);
 }
 
 /* A run that has nothing yet, NULL with an exception. */
@@ -42,19 +51,17 @@ static int has_counts(Run *run) {
 
 /* Run(catalogue, config, certificate or None, start, is strict, what tells a refusal) */
 static PyObject *run_new(PyTypeObject *type, PyObject *args, PyObject *keywords) {
-    PyObject *catalogue, *config, *certificate, *start, *tell, *made = NULL;
+    PyObject *given[4], *tell, *made = NULL;
     Texts texts = { 0 };
     Run *run = empty_run(type);
     (void)keywords;
     if (run == NULL) {
         return NULL;
     }
-    if (PyArg_ParseTuple(args, "OOOOpO", &catalogue, &config, &certificate, &start, &run->is_strict, &tell) &&
-        read_text(run, catalogue, &texts.catalogue) && read_text(run, config, &texts.config) &&
-        (certificate == Py_None || read_text(run, certificate, &texts.certificate)) &&
-        read_unsigned(run, start, &texts.start, WRONG_CLOCK)) {
+    if (PyArg_ParseTuple(args, "OOOOpO", &given[0], &given[1], &given[2], &given[3], &run->is_strict, &tell) &&
+        read_texts(run, given, &texts)) {
         run->tell = Py_NewRef(tell);
-        made = opened(run, &texts);
+        made = opened(run, &texts, handles_open);
     }
     if (made == NULL || !has_counts(run)) {
         Py_XDECREF(made);
@@ -63,6 +70,16 @@ static PyObject *run_new(PyTypeObject *type, PyObject *args, PyObject *keywords)
     }
     Py_DECREF(made);
     return (PyObject *)run;
+}
+
+/* Run.open_anew(catalogue, config, certificate or None, start): in the child of a fork, the run that the parent opened of them */
+static PyObject *open_anew(Run *self, PyObject *args) {
+    PyObject *given[4];
+    Texts texts = { 0 };
+    if (!PyArg_ParseTuple(args, "OOOO", &given[0], &given[1], &given[2], &given[3]) || !read_texts(self, given, &texts)) {
+        return NULL;
+    }
+    return handles_are_whole(&self->handles) ? Py_NewRef(Py_None) : opened(self, &texts, handles_open_anew);
 }
 
 /* What is asked of two texts, and the answer. */
@@ -107,6 +124,7 @@ static PyObject *lint(PyTypeObject *type, PyObject *args) {
 
 static void run_free(Run *run) {
     PyTypeObject *type = Py_TYPE(run);
+    PyObject_ClearWeakRefs((PyObject *)run);
     handles_free(&run->handles);
     Py_XDECREF(run->module);
     Py_XDECREF(run->tell);
@@ -296,6 +314,7 @@ static PyObject *roll_over(Run *self, PyObject *start) {
 
 static PyMethodDef methods[] = {
     { "lint", (PyCFunction)lint, METH_VARARGS | METH_CLASS, NULL },
+    { "open_anew", (PyCFunction)open_anew, METH_VARARGS, NULL },
     { "counts", (PyCFunction)counts, METH_NOARGS, NULL },
     { "name", (PyCFunction)name, METH_VARARGS, NULL },
     { "range", (PyCFunction)range, METH_VARARGS, NULL },
@@ -308,8 +327,12 @@ static PyMethodDef methods[] = {
     { NULL, NULL, 0, NULL },
 };
 
+static PyMemberDef members[] = {
+    { "__weaklistoffset__", T_PYSSIZET, offsetof(Run, weak), READONLY, NULL }, { NULL, 0, 0, 0, NULL }
+};
+
 static PyType_Slot slots[] = {
-    { Py_tp_new, run_new }, { Py_tp_dealloc, run_free }, { Py_tp_methods, methods }, { 0, NULL }
+    { Py_tp_new, run_new }, { Py_tp_dealloc, run_free }, { Py_tp_methods, methods }, { Py_tp_members, members }, { 0, NULL }
 };
 
 PyType_Spec run_spec = { "wormweekly._library.Run", sizeof(Run), 0, Py_TPFLAGS_DEFAULT, slots };

@@ -6,7 +6,8 @@ from wormweekly._refusals import Refusal
 _I = TypeVar("_I", bound=Instrument)
 _R = TypeVar("_R", bound=Recorder)
 _S = TypeVar("_S", bound=Reader)
-_Attributes = Mapping[str, str | int | bool]
+_Value = str | int | bool
+_Attributes = Mapping[str, _Value]
 _Point = tuple[dict[str, str | int | bool], bool, int | None, int, int, int, tuple[int, ...]]
 _Stream = tuple[tuple[str, str, str, str, str, str], int, int, bool, tuple[int, ...], tuple[_Point, ...]]
 _Total = tuple[int, bool, int, int]
@@ -27,6 +28,12 @@ class Instrument:
         """Adds to a counter or an up-down counter. Any thread may."""
     def record(self, value: int, attributes: _Attributes = ..., /) -> None:
         """Records a value of a histogram or a gauge. Any thread may."""
+    def known_or(self, key: str, value: _Value, other: _Value, /) -> _Value:
+        """The value, where the instrument declares it for the key; else the other one, and `replaced` counts it. A recording
+        tells what else is wrong."""
+    def declares(self, key: str, /) -> bool:
+        """Whether it declares a key."""
+    def _replaced(self) -> int: ...
     def _refused(self) -> dict[str, int]: ...
     def _add_clamped(self, bound: Bound, value: int, is_clamped: bool, /) -> None: ...
     def _count_refused(self, refusal: Refusal, /) -> None: ...
@@ -77,6 +84,7 @@ class Run:
         tell: Callable[[int, Refusal], object],
         /,
     ) -> Run: ...
+    def open_anew(self, catalogue: str, config: str, certificate: str | None, start: int, /) -> None: ...
     @classmethod
     def lint(cls, catalogue: str, config: str, /) -> str: ...
     def counts(self) -> tuple[int, int, int]: ...

@@ -2,9 +2,11 @@
 
 from __future__ import annotations
 
+import os
 import time
+import weakref
 from collections import Counter
-from collections.abc import Mapping
+from collections.abc import Callable, Mapping
 from dataclasses import dataclass
 from enum import IntEnum
 from typing import TypeVar
@@ -79,6 +81,21 @@ class Spare:
     left: int
 
 
+_Own = TypeVar("_Own")
+
+
+def in_child(own: _Own, call: Callable[[_Own], object]) -> None:
+    """Has it called in each child of a fork, as long as there is what it is called with."""
+    here = weakref.ref(own)
+
+    def called() -> None:
+        if (it := here()) is not None:
+            call(it)
+
+    if hasattr(os, "register_at_fork"):
+        os.register_at_fork(after_in_child=called)
+
+
 class Instrument(_library.Instrument):
     """An instrument, on which any thread records.
 
@@ -118,6 +135,11 @@ class Instrument(_library.Instrument):
         return self._clamped()
 
     @property
+    def replaced(self) -> int:
+        """How many values that it does not declare `known_or` replaced."""
+        return self._replaced()
+
+    @property
     def refused(self) -> dict[str, int]:
         """How often recordings on it were refused, by the refusal's name."""
         return self._refused()
@@ -127,6 +149,11 @@ class Instrument(_library.Instrument):
         is said. What is above the range is recorded as its greatest value, and `clamped` counts it. The attributes are
         looked up before the block."""
         return Timer(self, self._bound(attributes), unit)
+
+    def record_clamped(self, value: int, attributes: Attributes | None = None) -> None:
+        """Records a value, and one above the range as its greatest value, which `clamped` counts."""
+        if (bound := self._bound(attributes)) is not None:
+            self._took(bound, value)
 
     def in_flight(self, attributes: Attributes | None = None) -> InFlight:
         """A `with` that counts its block in and out, on an up-down counter. What could not be counted out is not counted
@@ -261,15 +288,19 @@ class Metrics:
         certificate: str | None = None,
         start: int | None = None,
         strict: bool = False,
+        reopen_in_child: bool = False,
     ) -> Metrics:
         """Opens a run of a catalogue and a config (TOML), since a time in nanoseconds, or now. Where no certificate is
         given, the library makes one; it is checked, whoever made it. Raises an `OpenFault` with the first fault. A strict
-        run raises each refusal of a recording; else these are counted, and logged once for each reason."""
+        run raises each refusal of a recording; else these are counted, and logged once for each reason. The child of a
+        fork refuses to count, unless `reopen_in_child` has it opened anew there, since the time of the fork."""
         teller = Teller()
         run = _library.Run(catalogue, config, certificate, time.time_ns() if start is None else start, strict, teller)
         self = cls()
         self._fill(run, run.warnings())
         teller.names += (one.name for one in self.instruments)
+        if reopen_in_child:
+            in_child(run, lambda own: own.open_anew(catalogue, config, certificate, time.time_ns()))
         return self
 
     def _fill(self, run: _library.Run, warnings: str) -> None:

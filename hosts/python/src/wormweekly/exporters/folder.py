@@ -1,0 +1,253 @@
+"""One page for Prometheus of several processes, which keep their own pages in a folder.
+
+    pages = PageFolder("/run/shop-metrics", metrics, metrics.reader("prometheus"), {"service.name": "shop"})
+    pages.page()  # of all processes
+
+Each process writes its page each second, and before it gives one of all. Counters and histograms are added up, exactly; a
+gauge, and what goes up and down, stands for each process that lives, with its label `pid`. What a process counted stays after
+its end: who asks next adds that to `ended.page`. Of a process that was killed, what it recorded after its last page is lost.
+Empty the folder when the service starts, or it goes on counting.
+"""
+
+from __future__ import annotations
+
+import atexit
+import fcntl
+import logging
+import os
+import re
+import secrets
+import threading
+from collections.abc import Callable, Iterator
+from contextlib import contextmanager
+from dataclasses import dataclass, field
+from pathlib import Path
+from typing import IO
+
+from wormweekly import Attributes, Metrics, Reader, ThreadRefusal
+from wormweekly._metrics import in_child
+
+__all__ = ["PageFault", "PageFolder"]
+
+_LOGGER = logging.getLogger("wormweekly")
+_LABEL = re.compile(r'([A-Za-z0-9_]+)="(?:[^"\\]|\\.)*"')
+_ADDED = ("counter", "histogram")
+
+_Gauge = Callable[[str], str | None]  # what a gauge's series is called in a page, or that it is left out
+
+
+class PageFault(ValueError):
+    """A page cannot be added to others."""
+
+
+class PageFolder:
+    """The page of this process in a folder, and that of all of them. It rolls over where less than a part of a budget is
+    left: what ended is added to this process's page."""
+
+    _name: str
+    _carried: str  # what this process's runs that ended add to its page
+    _turn: threading.Lock  # held while it writes
+    _ended: threading.Event
+    _lives: IO[str]  # locked until this process ends, however it does
+
+    def __init__(
+        self,
+        folder: str | os.PathLike[str],
+        metrics: Metrics,
+        reader: Reader,
+        resource: Attributes | None = None,
+        *,
+        interval: float = 1.0,
+        roll_over_below: float = 0.5,
+    ) -> None:
+        """Begins, in each child of a fork anew where the metrics do. Raises an `ExposureFault`, a `ResourceRefusal`."""
+        reader.expose()
+        self._folder = Path(folder)
+        self._folder.mkdir(parents=True, exist_ok=True)
+        self._metrics, self._reader, self._resource = metrics, reader, resource or {}
+        self._interval, self._roll_over_below = interval, roll_over_below
+        self._begin()
+        atexit.register(self.close)
+        in_child(self, PageFolder._begin_in_child)
+
+    def page(self) -> bytes:
+        """A page of all processes, in the text format 0.0.4."""
+        self.write()
+        with _locked(self._folder / "folder.lock"):
+            made = _Pages()
+            made.add(self._with_ended(), _no_gauge)
+            for path in sorted(self._folder.glob("*-*.page")):
+                made.add(_read(path), _of_process(path))
+        return made.text().encode()
+
+    def write(self) -> None:
+        """Writes the page of this process."""
+        with self._turn:
+            if not self._ended.is_set():
+                self._write()
+
+    def close(self) -> None:
+        """Writes the page a last time. It stays, as that of a process that ended."""
+        with self._turn:
+            if not self._ended.is_set():
+                self._write()
+                self._ended.set()
+                self._lives.close()
+
+    def _begin(self) -> None:
+        self._name = f"{os.getpid()}-{secrets.token_hex(4)}"
+        self._carried = ""
+        self._turn = threading.Lock()
+        self._ended = threading.Event()
+        self._lives = self._path(".lock").open("w")
+        fcntl.flock(self._lives, fcntl.LOCK_EX)
+        self.write()
+        threading.Thread(target=self._run, name="wormweekly pages", daemon=True).start()
+
+    def _begin_in_child(self) -> None:
+        self._lives.close()  # here alone
+        self._turn = threading.Lock()
+        self._ended = threading.Event()
+        self._ended.set()
+        try:
+            self._metrics.part_left()
+        except ThreadRefusal:  # the metrics do not go on here
+            return
+        self._begin()
+
+    def _write(self) -> None:
+        if self._metrics.part_left() < self._roll_over_below:
+            ended = self._metrics.roll_over()
+            self._carried = self._own_page(ended, _no_gauge)
+        _replace(self._path(".page"), self._own_page(self._metrics, str))
+
+    def _run(self) -> None:
+        while not self._ended.wait(self._interval):
+            try:
+                self.write()
+            except Exception:  # the thread is needed again, as when there is room
+                _LOGGER.exception("%s is not written", self._path(".page"))
+
+    def _path(self, suffix: str) -> Path:
+        return self._folder / f"{self._name}{suffix}"
+
+    def _own_page(self, metrics: Metrics, gauge: _Gauge) -> str:
+        made = _Pages()
+        made.add(self._carried, _no_gauge)
+        made.add(metrics.page(metrics.readers[self._reader.number], self._resource).decode(), gauge)
+        return made.text()
+
+    def _with_ended(self) -> str:
+        """Adds the pages of processes that ended to that of the earlier ones. Its first line has the names of those that were
+        added last: where their files are still there, whoever added them ended before it removed these."""
+        path = self._folder / "ended.page"
+        head, _, before = _read(path).partition("\n") if path.exists() else ("", "", "")
+        for name in head.split()[1:]:
+            self._remove(name)
+        ended = [one for one in sorted(self._folder.glob("*-*.page")) if not _is_alive(one)]
+        if not ended:
+            return before
+        made = _Pages()
+        made.add(before, _no_gauge)
+        for one in ended:
+            made.add(_read(one), _no_gauge)
+        _replace(path, "\n".join([" ".join(["#", *(one.stem for one in ended)]), made.text()]))
+        for one in ended:
+            self._remove(one.stem)
+        return made.text()
+
+    def _remove(self, name: str) -> None:
+        for suffix in (".page", ".lock"):
+            (self._folder / f"{name}{suffix}").unlink(missing_ok=True)
+
+
+@dataclass(slots=True)
+class _Family:
+    kind: str
+    head: list[str]
+    samples: dict[str, int] = field(default_factory=dict)
+
+
+class _Pages:
+    """Pages that are added up."""
+
+    def __init__(self) -> None:
+        self._families: dict[str, _Family] = {}
+
+    def add(self, page: str, gauge: _Gauge) -> None:
+        head: list[str] = []
+        family = _Family("", [])
+        for line in page.split("\n"):
+            if line.startswith("#"):
+                head.append(line)
+            if line.startswith("# TYPE "):
+                name, kind = line.split(" ")[2:4]
+                family = self._families.setdefault(name, _Family(kind, head))
+                head = []
+            elif line and not line.startswith("#"):
+                _add(family, line, gauge)
+
+    def text(self) -> str:
+        lines: list[str] = []
+        for family in self._families.values():
+            lines += family.head
+            lines += (f"{series} {value}" for series, value in family.samples.items())
+        return "".join(f"{line}\n" for line in lines)
+
+
+def _add(family: _Family, line: str, gauge: _Gauge) -> None:
+    series, _, number = line.rpartition(" ")
+    if family.kind in _ADDED:
+        family.samples[series] = family.samples.get(series, 0) + int(number)
+    elif series.startswith("target_info{"):
+        family.samples[series] = int(number)
+    elif (named := gauge(series)) is not None:
+        family.samples[named] = int(number)
+
+
+def _no_gauge(series: str) -> None:
+    return None
+
+
+def _of_process(path: Path) -> _Gauge:
+    """Gives the series of a gauge the process's label."""
+    label = f'pid="{path.stem.partition("-")[0]}"'
+
+    def named(series: str) -> str:
+        name, brace, labels = series.partition("{")
+        if "pid" in _LABEL.findall(labels):
+            raise PageFault(f"{path}: a gauge has a label pid of its own: {series}")
+        return f"{name}{{{labels[:-1]},{label}}}" if brace else f"{name}{{{label}}}"
+
+    return named
+
+
+def _is_alive(page: Path) -> bool:
+    """Whether the process of a page holds its lock."""
+    try:
+        with page.with_suffix(".lock").open() as lock:
+            fcntl.flock(lock, fcntl.LOCK_EX | fcntl.LOCK_NB)
+    except BlockingIOError:
+        return True
+    except FileNotFoundError:
+        return False
+    return False
+
+
+def _read(path: Path) -> str:
+    """A file as it is: a label may have other ends of lines."""
+    return path.read_bytes().decode()
+
+
+def _replace(path: Path, text: str) -> None:
+    """Writes a file so that readers find all of the old one or all of the new one."""
+    new = path.with_suffix(".new")
+    new.write_bytes(text.encode())
+    new.replace(path)
+
+
+@contextmanager
+def _locked(path: Path) -> Iterator[None]:
+    with path.open("w") as lock:
+        fcntl.flock(lock, fcntl.LOCK_EX)
+        yield
