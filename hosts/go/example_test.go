@@ -5,7 +5,7 @@ import (
 	"fmt"
 	"time"
 
-	"wormweekly"
+	"wormweekly.example/wormweekly"
 )
 
 const catalogue = `format = 1

@@ -1,3 +1,3 @@
-module wormweekly
+module wormweekly.example/wormweekly
 
 go 1.19

@@ -57,6 +57,8 @@ const (
 	answerDone              = 0
 	answerUnknownInstrument = 1
 	answerUnknownRecorder   = 2
+	answerUnknownKey        = 4
+	answerUnknownValue      = 5
 	answerBudget            = 9
 	answerMemory            = 11
 	answerStranger          = 12

@@ -1,6 +1,7 @@
 package wormweekly
 
 import (
+	"errors"
 	"fmt"
 	"math"
 	"strings"
@@ -137,6 +138,16 @@ func (metrics *Metrics) Settle() ([]Total, error) {
 	own.stop()
 	defer own.goOn()
 	return own.settle()
+}
+
+// Close ends the recordings of all instruments. They are collected and settled as before.
+func (metrics *Metrics) Close() error {
+	for _, instrument := range metrics.run.instruments {
+		if err := instrument.Close(); err != nil && !errors.Is(err, ErrClosed) {
+			return err
+		}
+	}
+	return nil
 }
 
 // PartLeft is how much is left of all that may be recorded on an instrument, budgets and spare: the least part that any has, from
@@ -282,6 +293,7 @@ type Instrument struct {
 	// the greatest value of its range, and how many durations were above it
 	greatest int64
 	clamped  atomic.Uint64
+	replaced atomic.Uint64
 	// the recorders that had no budget left, a bit for each; changed while the instrument is held
 	spent   atomic.Uint64
 	refused refusals
@@ -319,6 +331,37 @@ func (instrument *Instrument) Bind(attributes ...Attr) (Bound, error) {
 		return Bound{}, errorSaid(instrument, answer, recorder.number, attributes, 0)
 	}
 	return Bound{instrument, set}, nil
+}
+
+// KnownOr answers the attribute, where the instrument declares its value for its key; else the key with the other value, and
+// Replaced counts it. A recording tells what else is wrong.
+func (instrument *Instrument) KnownOr(attribute, other Attr) Attr {
+	if instrument.answerTo(attribute) != answerUnknownValue {
+		return attribute
+	}
+	instrument.replaced.Add(1)
+	other.key = attribute.key
+	return other
+}
+
+// Replaced is how many values that it does not declare KnownOr replaced.
+func (instrument *Instrument) Replaced() uint64 { return instrument.replaced.Load() }
+
+// Declares says whether it declares a key.
+func (instrument *Instrument) Declares(key string) bool {
+	return instrument.answerTo(Bool(key, false)) != answerUnknownKey
+}
+
+// What the library answers to an attribute alone.
+func (instrument *Instrument) answerTo(attribute Attr) uint32 {
+	own := instrument.run
+	if len(own.recorders) == 0 {
+		return answerUnknownRecorder
+	}
+	recorder := own.take()
+	defer recorder.mutex.Unlock()
+	_, answer := prepare(own.handles, instrument.number, recorder.number, []Attr{attribute})
+	return answer
 }
 
 // Grant gives a recorder so many recordings beside its budget, of what is left of the spare budget.

@@ -17,7 +17,7 @@ import (
 	sdk "go.opentelemetry.io/otel/sdk/metric"
 	"go.opentelemetry.io/otel/sdk/metric/selector/simple"
 
-	"wormweekly"
+	"wormweekly.example/wormweekly"
 )
 
 const (

@@ -23,7 +23,7 @@ import (
 	"sync"
 	"time"
 
-	"wormweekly"
+	"wormweekly.example/wormweekly"
 )
 
 const (

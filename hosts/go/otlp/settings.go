@@ -9,7 +9,7 @@ import (
 	"strings"
 	"time"
 
-	"wormweekly"
+	"wormweekly.example/wormweekly"
 )
 
 const defaultEndpoint = "http://localhost:4318/v1/metrics"

@@ -5,7 +5,7 @@ import (
 	"net/http"
 	"time"
 
-	"wormweekly"
+	"wormweekly.example/wormweekly"
 )
 
 // Handler answers each request with a page of all instruments, collected then, with the attributes of the resource. The

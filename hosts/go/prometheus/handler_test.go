@@ -8,7 +8,7 @@ import (
 	"testing"
 	"time"
 
-	"wormweekly"
+	"wormweekly.example/wormweekly"
 )
 
 const catalogue = `format = 1

@@ -7,7 +7,7 @@ import (
 	"log"
 	"time"
 
-	"wormweekly"
+	"wormweekly.example/wormweekly"
 )
 
 const catalogue = `format = 1

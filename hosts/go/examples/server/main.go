@@ -12,10 +12,10 @@ import (
 	"net/http"
 	"os"
 	"strings"
-	"time"
 
-	"wormweekly"
-	"wormweekly/prometheus"
+	"wormweekly.example/wormweekly"
+	"wormweekly.example/wormweekly/prometheus"
+	"wormweekly.example/wormweekly/web"
 )
 
 const catalogue = `format = 1
@@ -81,7 +81,11 @@ func run(address string) error {
 	mux := http.NewServeMux()
 	mux.Handle("/metrics", page)
 	metrics.OnRefusal(func(_ *wormweekly.Instrument, err error) { log.Printf("not counted, told once: %v", err) })
-	mux.Handle("/", measured(http.HandlerFunc(shop), metrics))
+	measured, err := web.Measure(http.HandlerFunc(shop), metrics)
+	if err != nil {
+		return err
+	}
+	mux.Handle("/", measured)
 	if address != "" {
 		return http.ListenAndServe(address, mux)
 	}
@@ -94,40 +98,6 @@ func shop(writer http.ResponseWriter, request *http.Request) {
 		return
 	}
 	fmt.Fprintln(writer, "welcome")
-}
-
-// Keeps the status of an answer.
-type noted struct {
-	http.ResponseWriter
-	status int
-}
-
-func (own *noted) WriteHeader(status int) {
-	own.status = status
-	own.ResponseWriter.WriteHeader(status)
-}
-
-// Measures a handler. A request is served, whether it is counted or not.
-func measured(handler http.Handler, metrics *wormweekly.Metrics) http.Handler {
-	requests, duration, inFlight := metrics.Instruments[0], metrics.Instruments[1], metrics.Instruments[2]
-	return http.HandlerFunc(func(writer http.ResponseWriter, request *http.Request) {
-		route := wormweekly.String("route", routeOf(request))
-		began := time.Now()
-		defer inFlight.InFlight()()
-		answer := &noted{writer, http.StatusOK}
-		handler.ServeHTTP(answer, request)
-		duration.AddDuration(time.Since(began), time.Millisecond, route)
-		requests.Add(1, route, wormweekly.Int("status", int64(answer.status)))
-	})
-}
-
-func routeOf(request *http.Request) string {
-	switch path := request.URL.Path; path {
-	case "/", "/cart":
-		return path
-	default:
-		return "other"
-	}
 }
 
 // Serves some requests to itself, and prints the page, but for what depends on the clock.

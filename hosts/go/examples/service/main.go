@@ -11,7 +11,7 @@ import (
 	"sync"
 	"time"
 
-	"wormweekly"
+	"wormweekly.example/wormweekly"
 )
 
 const requests = 1000
