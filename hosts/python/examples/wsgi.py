@@ -19,7 +19,7 @@ from wormweekly import Metrics
 from wormweekly.web import Measures, Wsgi
 
 if TYPE_CHECKING:
-    from wsgiref.types import StartResponse, WSGIEnvironment
+    from wsgiref.types import StartResponse, WSGIApplication, WSGIEnvironment
 
 CATALOGUE = """format = 1
 [[meter]]
@@ -71,12 +71,12 @@ class Quiet(WSGIRequestHandler):
         pass
 
 
-def measured() -> Wsgi:
-    """The shop with what it takes to measure it."""
+def measured(application: WSGIApplication) -> Wsgi:
+    """The application, measured."""
     metrics = Metrics.open(CATALOGUE, CONFIG)
     reader = metrics.reader("prometheus")
     reader.expose()
-    return Wsgi(shop, Measures(metrics), page=lambda: metrics.page(reader, {"service.name": "shop"}))
+    return Wsgi(application, Measures(metrics), page=lambda: metrics.page(reader, {"service.name": "shop"}))
 
 
 def get(url: str) -> str:
@@ -88,7 +88,7 @@ def get(url: str) -> str:
 
 
 def main(port: int | None) -> None:
-    server = make_server("127.0.0.1", port or 0, measured(), Server, Quiet)
+    server = make_server("127.0.0.1", port or 0, measured(shop), Server, Quiet)
     if port is not None:
         server.serve_forever()
     threading.Thread(target=server.serve_forever, daemon=True).start()

@@ -102,9 +102,9 @@ class Wsgi:
     def __call__(self, environ: WSGIEnvironment, start_response: StartResponse) -> Iterable[bytes]:
         path = environ.get("PATH_INFO", "")
         if self._page is not None and path == self._at:
-            body = self._page()
-            start_response("200 OK", [(name, value) for name, value in _headers(body)])
-            return [body]
+            page = self._page()
+            start_response("200 OK", _headers(page))
+            return [page]
         request = self._measures.begin(environ["REQUEST_METHOD"], path)
 
         def note(status: str, *rest: Any) -> Callable[[bytes], object]:
@@ -112,10 +112,14 @@ class Wsgi:
             return start_response(status, *rest)
 
         try:
-            return _Answer(self._application(environ, note), request)
+            body = self._application(environ, note)
         except BaseException:
             request.end()
             raise
+        if isinstance(body, list | tuple):  # all of it is there, and a server may ask how long it is
+            request.end()
+            return body
+        return _Answer(body, request)
 
 
 class _Answer:
