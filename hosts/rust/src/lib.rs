@@ -175,6 +175,7 @@
 #![warn(missing_docs)]
 
 mod batch;
+mod debug;
 mod dialect;
 mod fault;
 mod headroom;

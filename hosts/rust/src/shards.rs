@@ -1,6 +1,6 @@
 //! The recorders of a run as shards: any thread takes one of them for a recording.
 use crate::fault::{Refusal, RollFault, SettleFault};
-use crate::metrics::{Metrics, Rolled, Total};
+use crate::metrics::{Instrument, Metrics, Rolled, Total};
 use crate::reader::Reader;
 use crate::recorder::Recorder;
 use crate::value::Value;
@@ -315,6 +315,17 @@ impl Shards {
         }
     }
 
+    /// The least part that is left of all that may be recorded on an instrument. Recordings wait as long as that takes.
+    pub(crate) fn part_left(&self) -> f64 {
+        let mut held = self.lock_all();
+        let metrics = held.first().map(|first| first.metrics.clone());
+        metrics
+            .iter()
+            .flat_map(Metrics::instruments)
+            .map(|instrument| part_left_of(instrument, &mut held))
+            .fold(1.0, f64::min)
+    }
+
     /// The totals of all instruments. Recordings wait as long as that takes.
     pub(crate) fn settle(&self) -> Result<Vec<Total>, SettleFault> {
         let mut held = self.lock_all();
@@ -327,6 +338,20 @@ impl Shards {
         put_back(&mut held, recorders);
         totals
     }
+}
+
+// What is left on an instrument, of budgets and spare.
+fn part_left_of(instrument: &Instrument, held: &mut [MutexGuard<'_, Shard>]) -> f64 {
+    let spare = instrument.spare();
+    let (mut most, mut left) = (spare.declared as f64, spare.left as f64);
+    let budgets = held
+        .iter_mut()
+        .filter_map(|shard| shard.recorder.budget(instrument).ok());
+    for budget in budgets {
+        most += budget.declared as f64;
+        left += budget.left as f64;
+    }
+    if most > 0.0 { left / most } else { 1.0 }
 }
 
 // Takes the recorders out of the shards, in order.

@@ -36,6 +36,7 @@ pub(crate) struct Own {
 struct InstrumentCounts {
     refused: Counts,
     clamped: AtomicU64,
+    replaced: AtomicU64,
 }
 
 /// An instrument on which any thread records. Cloned, it is the same instrument.
@@ -152,6 +153,12 @@ impl Shared {
         self.own.shards.settle()
     }
 
+    /// How much is left of all that may be recorded on an instrument, budgets and spare: the least part that any has, from 1.0 to
+    /// 0.0. Roll over in time: past it, recordings are refused.
+    pub fn part_left(&self) -> f64 {
+        self.own.shards.part_left()
+    }
+
     /// Ends the run, and begins the next one of the same plan in its place, since a time in nanoseconds: with budgets as
     /// declared, nothing counted, and all instruments open. Instruments and bound sets go on in it; recordings wait
     /// meanwhile. With the totals come the instruments that ended, of which each reader collects a last time, and the readers
@@ -200,6 +207,25 @@ impl SharedInstrument {
     /// [`Instrument::close`].
     pub fn instrument(&self) -> Instrument {
         self.own.metrics().instruments()[self.number].clone()
+    }
+
+    /// The value, where the instrument declares it for the key; else the other one, and [`SharedInstrument::replaced`] counts it.
+    /// A recording tells what else is wrong.
+    pub fn known_or<'a>(&self, key: &str, value: Value<'a>, other: Value<'a>) -> Value<'a> {
+        let found = match self.own.shards.any() {
+            Some(mut shard) => shard.set_of(self.number, &[(key, value)]),
+            None => return value,
+        };
+        if found != Err(UNKNOWN_VALUE) {
+            return value;
+        }
+        self.counts().replaced.fetch_add(1, Ordering::Relaxed);
+        other
+    }
+
+    /// How many values that the instrument does not declare [`SharedInstrument::known_or`] replaced.
+    pub fn replaced(&self) -> u64 {
+        self.counts().replaced.load(Ordering::Relaxed)
     }
 
     /// Adds to a counter or an up-down counter.
@@ -342,6 +368,8 @@ impl SharedInstrument {
     }
 }
 
+// The number of the refusal of a value that a key does not declare.
+const UNKNOWN_VALUE: u32 = 5;
 // The number of the refusal of a recorder that is not there.
 const UNKNOWN_RECORDER: u32 = 2;
 

@@ -5,7 +5,7 @@ use std::thread;
 use std::time::Duration;
 use wormweekly::{
     Bound, Ended, PointValue, Reader, Refusal, Shared, SharedInstrument, Spare, TimeUnit, Total,
-    open,
+    Value, open,
 };
 
 // Two recorders with few orders, some spare ones, and many of the rest.
@@ -279,6 +279,47 @@ fn runs_go_over_under_traffic_and_nothing_is_lost() -> Result<(), Box<dyn std::e
     assert_eq!(settled + shared.settle()?[1].count, made);
     assert_eq!(collected, made as i64);
     Ok(())
+}
+
+#[test]
+fn an_undeclared_value_is_another() {
+    let (shared, _) = shared();
+    let orders = named(&shared, "orders");
+    let known = |key, value| orders.known_or(key, Value::Text(value), Value::Text("fr"));
+    assert_eq!(known("country", "de"), Value::Text("de"));
+    assert_eq!(known("country", "uk"), Value::Text("fr"));
+    assert_eq!(known("town", "uk"), Value::Text("uk"));
+    assert_eq!(orders.replaced(), 1);
+}
+
+#[test]
+fn what_is_left_of_budgets() -> Result<(), Box<dyn std::error::Error>> {
+    let (shared, _) = shared();
+    assert_eq!(shared.part_left(), 1.0);
+    for left in (0..9).rev() {
+        named(&shared, "orders").try_add(1, DE)?;
+        assert_eq!(shared.part_left(), f64::from(left) / 9.0);
+    }
+    shared.roll_over(1)?;
+    assert_eq!(shared.part_left(), 1.0);
+    Ok(())
+}
+
+#[test]
+fn all_types_are_shown() {
+    let opened = open(CATALOGUE, CONFIG, 0).expect("the plan is certified");
+    let shown = format!("{:?} {:?} {:?}", opened, opened.recorders, opened.readers);
+    assert!(shown.contains("Instrument { name: \"orders\", .. }"));
+    assert!(
+        shown.contains("Recorder { name: \"two\", .. }")
+            && shown.contains("Reader { name: \"new\", .. }")
+    );
+    let (shared, _) = opened.share();
+    let bound = named(&shared, "orders").bind(DE).expect("it is declared");
+    let shown = format!("{shared:?} {bound:?} {:?}", bound.in_flight());
+    assert!(shown.contains("SharedInstrument { name: \"orders\", .. }"));
+    let fault = open("", CONFIG, 0).unwrap_err();
+    assert!(fault.to_string().starts_with("catalogue"));
 }
 
 #[test]
