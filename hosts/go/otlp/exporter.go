@@ -48,8 +48,8 @@ func With(settings Settings) Option {
 	return func(own *Exporter) { own.settings, own.isSet = settings, true }
 }
 
-// RollOverBelow has the metrics roll over where less than this part of a budget is left, and 0.5 if it is not said; 0 leaves
-// that to others. What ended is given to a call, so that other readers collect it.
+// RollOverBelow has the metrics roll over where less than this part of a budget is left. What ended is given to a call, so that
+// other readers collect it. If it is not said, they roll over below 0.5 where they have no other reader.
 func RollOverBelow(part float64, ended func(*wormweekly.Ended)) Option {
 	return func(own *Exporter) { own.below, own.ended = part, ended }
 }
@@ -92,9 +92,12 @@ type Exporter struct {
 
 // New begins. The error says what of the environment or of the resource is not taken.
 func New(metrics *wormweekly.Metrics, reader *wormweekly.Reader, options ...Option) (*Exporter, error) {
-	own := &Exporter{metrics: metrics, reader: reader.Number(), below: 0.5, mostWaiting: 64 << 20,
+	own := &Exporter{metrics: metrics, reader: reader.Number(), mostWaiting: 64 << 20,
 		tell: func(error) {}, ended: func(*wormweekly.Ended) {},
 		stop: make(chan struct{}), stopped: make(chan struct{})}
+	if len(metrics.Readers) == 1 {
+		own.below = 0.5
+	}
 	for _, option := range options {
 		option(own)
 	}

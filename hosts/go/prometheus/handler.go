@@ -3,31 +3,93 @@ package prometheus
 
 import (
 	"net/http"
+	"sync"
 	"time"
 
 	"wormweekly.example/wormweekly"
 )
 
-// Handler answers each request with a page of all instruments, collected then, with the attributes of the resource. The
-// error says why there is none: streams that can not stand in one, a resource that is not taken, or a reader of another
-// run.
-func Handler(
-	metrics *wormweekly.Metrics, reader *wormweekly.Reader, resource ...wormweekly.Attr,
-) (http.Handler, error) {
+// A Page of all instruments, which a handler of HTTP answers with. It goes on where a run ends: what ended is added.
+type Page struct {
+	metrics  *wormweekly.Metrics
+	reader   int
+	resource []wormweekly.Attr
+	mutex    sync.Mutex
+	ended    map[wormweekly.Dialect][]byte // pages of runs that ended, added up
+}
+
+// Handler answers each request with a page of all instruments, collected then, with the attributes of the resource. Where the metrics
+// have no other reader, it rolls them over before a budget is spent, as far as requests come in time; else hand Take the runs
+// that end. The error says why there is none: streams that can not stand in one, a resource that is not taken, or a reader of
+// another run.
+func Handler(metrics *wormweekly.Metrics, reader *wormweekly.Reader, resource ...wormweekly.Attr) (*Page, error) {
 	if err := reader.Expose(); err != nil {
 		return nil, err
 	}
 	if _, err := metrics.Page(reader, time.Now(), wormweekly.Text, resource...); err != nil {
 		return nil, err
 	}
-	return http.HandlerFunc(func(writer http.ResponseWriter, request *http.Request) {
-		dialect := wormweekly.Accepted(request.Header.Get("Accept"))
-		page, err := metrics.Page(reader, time.Now(), dialect, resource...)
+	return &Page{metrics: metrics, reader: reader.Number(), resource: resource}, nil
+}
+
+func (own *Page) ServeHTTP(writer http.ResponseWriter, request *http.Request) {
+	dialect := wormweekly.Accepted(request.Header.Get("Accept"))
+	page, err := own.text(dialect)
+	if err != nil {
+		http.Error(writer, err.Error(), http.StatusInternalServerError)
+		return
+	}
+	writer.Header().Set("Content-Type", dialect.ContentType())
+	_, _ = writer.Write(page) // whoever asked has gone
+}
+
+// Take adds a run that ended.
+func (own *Page) Take(ended *wormweekly.Ended) error {
+	own.mutex.Lock()
+	defer own.mutex.Unlock()
+	return own.take(ended)
+}
+
+func (own *Page) take(ended *wormweekly.Ended) error {
+	sums := map[wormweekly.Dialect][]byte{}
+	for _, dialect := range []wormweekly.Dialect{wormweekly.Text, wormweekly.OpenMetrics} {
+		last, err := own.collected(ended.Metrics, dialect)
 		if err != nil {
-			http.Error(writer, err.Error(), http.StatusInternalServerError)
-			return
+			return err
 		}
-		writer.Header().Set("Content-Type", dialect.ContentType())
-		_, _ = writer.Write(page) // whoever asked has gone
-	}), nil
+		if sums[dialect], err = added(dialect, own.ended[dialect], last, false); err != nil {
+			return err
+		}
+	}
+	own.ended = sums
+	return nil
+}
+
+func (own *Page) text(dialect wormweekly.Dialect) ([]byte, error) {
+	own.mutex.Lock()
+	defer own.mutex.Unlock()
+	if err := own.rollOver(); err != nil {
+		return nil, err
+	}
+	last, err := own.collected(own.metrics, dialect)
+	if err != nil || own.ended == nil {
+		return last, err
+	}
+	return added(dialect, own.ended[dialect], last, true)
+}
+
+func (own *Page) rollOver() error {
+	left, err := own.metrics.PartLeft()
+	if err != nil || left >= 0.5 || len(own.metrics.Readers) > 1 {
+		return err
+	}
+	ended, err := own.metrics.RollOver(time.Now())
+	if err != nil {
+		return err
+	}
+	return own.take(ended)
+}
+
+func (own *Page) collected(metrics *wormweekly.Metrics, dialect wormweekly.Dialect) ([]byte, error) {
+	return metrics.Page(metrics.Readers[own.reader], time.Now(), dialect, own.resource...)
 }

@@ -134,3 +134,50 @@ func TestWhatHasNoPage(t *testing.T) {
 		t.Error(err)
 	}
 }
+
+func TestAPageGoesOnWhereARunEnds(t *testing.T) {
+	metrics, err := wormweekly.Open(catalogue, config)
+	if err != nil {
+		t.Fatal(err)
+	}
+	page, err := Handler(metrics, metrics.Readers[0], wormweekly.String("service.name", "shop"))
+	if err != nil {
+		t.Fatal(err)
+	}
+	asked := func(accept string) string {
+		request, answer := httptest.NewRequest(http.MethodGet, "/metrics", nil), httptest.NewRecorder()
+		request.Header.Set("Accept", accept)
+		page.ServeHTTP(answer, request)
+		return answer.Body.String()
+	}
+	for round := int64(0); round < 32; round++ {
+		for _, instrument := range metrics.Instruments[1:] {
+			if err := instrument.TryAdd(round % 10); err != nil {
+				t.Fatal(err)
+			}
+		}
+		asked("")
+	}
+	samples := `duration_milliseconds_bucket{otel_scope_name="shop",le="10.0"} 32
+duration_milliseconds_bucket{otel_scope_name="shop",le="100.0"} 32
+duration_milliseconds_bucket{otel_scope_name="shop",le="+Inf"} 32
+duration_milliseconds_sum{otel_scope_name="shop"} 136
+duration_milliseconds_count{otel_scope_name="shop"} 32
+`
+	level := "level_meters{otel_scope_name=\"shop\"} 1\n"
+	for accept, ends := range map[string]string{"": level, "application/openmetrics-text": level + "# EOF\n"} {
+		got := asked(accept)
+		if !strings.Contains(got, samples) || !strings.HasSuffix(got, ends) || !strings.Contains(got, "target_info{") {
+			t.Error(got)
+		}
+	}
+	requests := metrics.Instruments[0]
+	requests.Add(1, wormweekly.String("route", "/"), wormweekly.Bool("cached", true))
+	ended, err := metrics.RollOver(time.Now())
+	if err != nil {
+		t.Fatal(err)
+	}
+	if err := page.Take(ended); err != nil || !strings.Contains(asked(""), `http_requests_total{route="/",cached="true",otel_scope_name="shop"} 1`) {
+		t.Error(err, asked(""))
+	}
+}

@@ -16,6 +16,7 @@ from typing import TYPE_CHECKING
 from wsgiref.simple_server import WSGIRequestHandler, WSGIServer, make_server
 
 from wormweekly import Metrics
+from wormweekly.exporters.pages import Page
 from wormweekly.web import Measures, Wsgi
 
 if TYPE_CHECKING:
@@ -74,9 +75,8 @@ class Quiet(WSGIRequestHandler):
 def measured(application: WSGIApplication) -> Wsgi:
     """The application, measured."""
     metrics = Metrics.open(CATALOGUE, CONFIG)
-    reader = metrics.reader("prometheus")
-    reader.expose()
-    return Wsgi(application, Measures(metrics), page=lambda: metrics.page(reader, {"service.name": "shop"}))
+    page = Page(metrics, metrics.reader("prometheus"), {"service.name": "shop"})
+    return Wsgi(application, Measures(metrics), page=page.bytes)
 
 
 def get(url: str) -> str:

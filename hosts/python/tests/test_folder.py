@@ -29,7 +29,7 @@ class Folder(unittest.TestCase):
         self.addCleanup(self.pages.close)
 
     def page_folder(self, metrics: Metrics) -> PageFolder:
-        return PageFolder(self.folder, metrics, metrics.readers[0], {"service.name": "shop"}, interval=3600)
+        return PageFolder(self.folder, metrics, metrics.readers[0], {"service.name": "shop"}, interval=3600, roll_over_below=0.5)
 
     def in_child(self, call: Callable[[], object]) -> int:
         """Calls in a child, which ends without a word."""

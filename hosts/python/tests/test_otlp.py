@@ -169,7 +169,10 @@ class Posts(unittest.TestCase):
     def test_a_budget_never_ends(self) -> None:
         collector, ended = Collector(DONE), list[Ended]()
         self.addCleanup(collector.close)
-        exporter = Exporter(self.metrics, self.metrics.reader("new"), collector.settings, on_roll_over=ended.append)
+        exporter = Exporter(
+            self.metrics, self.metrics.reader("new"), collector.settings,
+            roll_over_below=0.5, on_roll_over=ended.append,
+        )
         gauge = self.metrics.instrument("temperature")
         for _ in range(5):
             for _ in range(3):

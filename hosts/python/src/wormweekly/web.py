@@ -1,6 +1,6 @@
 """Web applications that are measured, as WSGI and ASGI have them.
 
-    application = Wsgi(application, Measures(metrics, route=route_of), page=lambda: metrics.page(reader))
+    application = Wsgi(application, Measures(metrics, route=route_of), page=Page(metrics, reader).bytes)
 
 A request counts when its answer ends, whatever becomes of it. The instruments are told of a method, a route and a status as far
 as they declare the keys `method`, `route` and `status`; what they do not declare of these is recorded as `other`, which the

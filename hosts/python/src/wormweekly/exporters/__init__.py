@@ -1,1 +1,1 @@
-"""What takes metrics out of a process."""
+"""What takes metrics out of a process: `otlp`, `pages` and `folder`."""

@@ -18,34 +18,28 @@ import os
 import re
 import secrets
 import threading
-from collections.abc import Callable, Iterator
+from collections.abc import Iterator
 from contextlib import contextmanager
-from dataclasses import dataclass, field
 from pathlib import Path
 from typing import IO
 
-from wormweekly import Attributes, Metrics, Reader, ThreadRefusal
+from wormweekly import Attributes, Ended, Metrics, Reader, ThreadRefusal
 from wormweekly._metrics import in_child
+from wormweekly.exporters.pages import Gauge, Page, Pages, no_gauge
 
 __all__ = ["PageFault", "PageFolder"]
 
 _LOGGER = logging.getLogger("wormweekly")
 _LABEL = re.compile(r'([A-Za-z0-9_]+)="(?:[^"\\]|\\.)*"')
-_ADDED = ("counter", "histogram")
-
-_Gauge = Callable[[str], str | None]  # what a gauge's series is called in a page, or that it is left out
-
 
 class PageFault(ValueError):
     """A page cannot be added to others."""
 
 
 class PageFolder:
-    """The page of this process in a folder, and that of all of them. It rolls over where less than a part of a budget is
-    left: what ended is added to this process's page."""
+    """The page of this process in a folder, and that of all of them."""
 
     _name: str
-    _carried: str  # what this process's runs that ended add to its page
     _turn: threading.Lock  # held while it writes
     _ended: threading.Event
     _lives: IO[str]  # locked until this process ends, however it does
@@ -58,14 +52,15 @@ class PageFolder:
         resource: Attributes | None = None,
         *,
         interval: float = 1.0,
-        roll_over_below: float = 0.5,
+        roll_over_below: float | None = None,
     ) -> None:
-        """Begins, in each child of a fork anew where the metrics do. Raises an `ExposureFault`, a `ResourceRefusal`."""
-        reader.expose()
+        """Begins, in each child of a fork anew where the metrics do. It rolls over as a `Page` does, and raises what that
+        raises."""
+        self._metrics = metrics
+        self._page = Page(metrics, reader, resource, roll_over_below=roll_over_below)
         self._folder = Path(folder)
         self._folder.mkdir(parents=True, exist_ok=True)
-        self._metrics, self._reader, self._resource = metrics, reader, resource or {}
-        self._interval, self._roll_over_below = interval, roll_over_below
+        self._interval = interval
         self._begin()
         atexit.register(self.close)
         in_child(self, PageFolder._begin_in_child)
@@ -74,11 +69,15 @@ class PageFolder:
         """A page of all processes, in the text format 0.0.4."""
         self.write()
         with _locked(self._folder / "folder.lock"):
-            made = _Pages()
-            made.add(self._with_ended(), _no_gauge)
+            made = Pages()
+            made.add(self._with_ended(), no_gauge)
             for path in sorted(self._folder.glob("*-*.page")):
                 made.add(_read(path), _of_process(path))
         return made.text().encode()
+
+    def take(self, ended: Ended) -> None:
+        """Adds a run that ended to this process's page."""
+        self._page.take(ended)
 
     def write(self) -> None:
         """Writes the page of this process."""
@@ -96,7 +95,6 @@ class PageFolder:
 
     def _begin(self) -> None:
         self._name = f"{os.getpid()}-{secrets.token_hex(4)}"
-        self._carried = ""
         self._turn = threading.Lock()
         self._ended = threading.Event()
         self._lives = self._path(".lock").open("w")
@@ -106,6 +104,7 @@ class PageFolder:
 
     def _begin_in_child(self) -> None:
         self._lives.close()  # here alone
+        self._page.forget()
         self._turn = threading.Lock()
         self._ended = threading.Event()
         self._ended.set()
@@ -116,10 +115,7 @@ class PageFolder:
         self._begin()
 
     def _write(self) -> None:
-        if self._metrics.part_left() < self._roll_over_below:
-            ended = self._metrics.roll_over()
-            self._carried = self._own_page(ended, _no_gauge)
-        _replace(self._path(".page"), self._own_page(self._metrics, str))
+        _replace(self._path(".page"), self._page.text())
 
     def _run(self) -> None:
         while not self._ended.wait(self._interval):
@@ -131,12 +127,6 @@ class PageFolder:
     def _path(self, suffix: str) -> Path:
         return self._folder / f"{self._name}{suffix}"
 
-    def _own_page(self, metrics: Metrics, gauge: _Gauge) -> str:
-        made = _Pages()
-        made.add(self._carried, _no_gauge)
-        made.add(metrics.page(metrics.readers[self._reader.number], self._resource).decode(), gauge)
-        return made.text()
-
     def _with_ended(self) -> str:
         """Adds the pages of processes that ended to that of the earlier ones. Its first line has the names of those that were
         added last: where their files are still there, whoever added them ended before it removed these."""
@@ -147,10 +137,10 @@ class PageFolder:
         ended = [one for one in sorted(self._folder.glob("*-*.page")) if not _is_alive(one)]
         if not ended:
             return before
-        made = _Pages()
-        made.add(before, _no_gauge)
+        made = Pages()
+        made.add(before, no_gauge)
         for one in ended:
-            made.add(_read(one), _no_gauge)
+            made.add(_read(one), no_gauge)
         _replace(path, "\n".join([" ".join(["#", *(one.stem for one in ended)]), made.text()]))
         for one in ended:
             self._remove(one.stem)
@@ -161,55 +151,7 @@ class PageFolder:
             (self._folder / f"{name}{suffix}").unlink(missing_ok=True)
 
 
-@dataclass(slots=True)
-class _Family:
-    kind: str
-    head: list[str]
-    samples: dict[str, int] = field(default_factory=dict)
-
-
-class _Pages:
-    """Pages that are added up."""
-
-    def __init__(self) -> None:
-        self._families: dict[str, _Family] = {}
-
-    def add(self, page: str, gauge: _Gauge) -> None:
-        head: list[str] = []
-        family = _Family("", [])
-        for line in page.split("\n"):
-            if line.startswith("#"):
-                head.append(line)
-            if line.startswith("# TYPE "):
-                name, kind = line.split(" ")[2:4]
-                family = self._families.setdefault(name, _Family(kind, head))
-                head = []
-            elif line and not line.startswith("#"):
-                _add(family, line, gauge)
-
-    def text(self) -> str:
-        lines: list[str] = []
-        for family in self._families.values():
-            lines += family.head
-            lines += (f"{series} {value}" for series, value in family.samples.items())
-        return "".join(f"{line}\n" for line in lines)
-
-
-def _add(family: _Family, line: str, gauge: _Gauge) -> None:
-    series, _, number = line.rpartition(" ")
-    if family.kind in _ADDED:
-        family.samples[series] = family.samples.get(series, 0) + int(number)
-    elif series.startswith("target_info{"):
-        family.samples[series] = int(number)
-    elif (named := gauge(series)) is not None:
-        family.samples[named] = int(number)
-
-
-def _no_gauge(series: str) -> None:
-    return None
-
-
-def _of_process(path: Path) -> _Gauge:
+def _of_process(path: Path) -> Gauge:
     """Gives the series of a gauge the process's label."""
     label = f'pid="{path.stem.partition("-")[0]}"'
 

@@ -30,6 +30,7 @@ from typing import IO
 from urllib.parse import unquote, urlsplit
 
 from wormweekly import Attributes, Ended, Metrics, Reader, __version__
+from wormweekly.exporters.pages import roll_over_part
 
 __all__ = ["Exporter", "Settings", "SettingsFault"]
 
@@ -136,16 +137,18 @@ class Exporter:
         reader: Reader,
         settings: Settings | None = None,
         *,
-        roll_over_below: float = 0.5,
+        roll_over_below: float | None = None,
         on_roll_over: Callable[[Ended], object] | None = None,
         most_waiting: int = 64 << 20,
     ) -> None:
-        """Begins. The metrics roll over where less than this part of a budget is left; 0 leaves that to others. Then
-        `on_roll_over` gets the run that ended, so that other readers collect it. Raises a `ResourceRefusal`."""
+        """Begins. The metrics roll over where less than this part of a budget is left: if nothing is said, half of it, where
+        they have no other reader. `on_roll_over` gets the run that ended, so that others collect it. Raises a
+        `ResourceRefusal`."""
         self.settings = settings or Settings.of_environment()
         self.posted = self.dropped = self.rejected = 0
         self._metrics, self._reader = metrics, reader
-        self._roll_over_below, self._on_roll_over = roll_over_below, on_roll_over
+        self._roll_over_below = roll_over_part(metrics) if roll_over_below is None else roll_over_below
+        self._on_roll_over = on_roll_over
         self._most_waiting = most_waiting
         self._resource = _sdk() | dict(self.settings.resource)
         self._waiting: deque[bytes] = deque()
