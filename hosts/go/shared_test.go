@@ -269,6 +269,22 @@ func TestEachRecordingIsCollectedOnce(t *testing.T) {
 	equal(t, counted > 100_000 && runs > 10, true)
 }
 
+func TestAnUndeclaredValueIsAnother(t *testing.T) {
+	metrics, _, _, requests := opened(t)
+	other := String("", "/cart")
+	equal(t, requests.KnownOr(String("route", "/"), other), String("route", "/"))
+	equal(t, requests.KnownOr(String("route", "/none"), other), String("route", "/cart"))
+	equal(t, requests.KnownOr(Int("status", 500), Int("", 404)), Int("status", 404))
+	equal(t, requests.KnownOr(String("town", "x"), other), String("town", "x")) // the recording tells
+	equal(t, requests.Replaced(), uint64(2))
+	equal(t, []bool{requests.Declares("cached"), requests.Declares("town")}, []bool{true, false})
+	done(t, requests.Close())
+	done(t, metrics.Close())
+	if err := metrics.Instruments[1].TryAdd(1); !errors.Is(err, ErrClosed) {
+		t.Error(err)
+	}
+}
+
 func TestARunThatHasEnded(t *testing.T) {
 	metrics, _, _, requests := opened(t)
 	requests.Add(3, home...)

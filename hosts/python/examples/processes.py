@@ -13,6 +13,7 @@ import signal
 import sys
 import tempfile
 import urllib.request
+import warnings
 from collections.abc import Iterable
 from concurrent.futures import ThreadPoolExecutor
 from typing import TYPE_CHECKING
@@ -73,6 +74,7 @@ class Quiet(WSGIRequestHandler):
 
 def main() -> None:
     server = make_server("127.0.0.1", 0, application, handler_class=Quiet)
+    warnings.simplefilter("ignore", DeprecationWarning)  # of threads at a fork: that of the pages rests then
     workers = [os.fork() for _ in range(4) if os.getpid() == PARENT]
     if os.getpid() != PARENT:
         signal.signal(signal.SIGTERM, lambda *_: sys.exit(0))

@@ -230,6 +230,30 @@ class Shared(unittest.TestCase):
         settled += self.metrics.settle()[0].count
         self.assertEqual(settled + self.requests.refused.get("Budget", 0), sum(made))
 
+    def test_an_undeclared_value_is_another(self) -> None:
+        known_or = self.requests.known_or
+        self.assertEqual([known_or("route", path, "/cart") for path in ("/", "/cart", "/none")], ["/", "/cart", "/cart"])
+        self.assertEqual([known_or("status", status, 404) for status in (200, 500, True)], [200, 404, 404])
+        self.assertEqual(self.requests.replaced, 3)
+        # what else is wrong is told by the recording
+        self.assertEqual((known_or("town", "x", "y"), known_or("route", 1.5, "/")), ("x", 1.5))  # type: ignore[arg-type]
+        self.assertEqual((known_or(7, "x", "y"), self.requests.replaced), ("x", 3))  # type: ignore[arg-type]
+        self.assertEqual([self.requests.declares(key) for key in ("route", "cached", "town", "")], [True, True, False, False])
+        with self.assertRaises(TypeError):
+            known_or("route", "x")  # type: ignore[call-arg]
+        with self.assertRaises(TypeError):
+            known_or([], "x", "y")  # type: ignore[arg-type]
+        self.metrics.instrument("duration").record_clamped(70_000, {"route": "/"})
+        self.metrics.instrument("duration").record_clamped(5, {"route": "/none"})
+        self.assertEqual(self.metrics.settle()[2], Total(1, 60_000))
+        self.assertEqual(self.metrics.instrument("duration").clamped, 1)
+
+    def test_a_with_closes_all(self) -> None:
+        with self.metrics as metrics:
+            metrics.instruments[1].close()
+        self.requests.add(1, HOME)
+        self.assertEqual(self.requests.refused, {"Closed": 1})
+
     def test_each_recording_is_collected_once(self) -> None:
         # A service of four threads whose readers collect now and then, and after each end of a run.
         bound, seen, runs = self.requests.bind(HOME), [0, 0], 0

@@ -84,16 +84,19 @@ class Spare:
 _Own = TypeVar("_Own")
 
 
-def in_child(own: _Own, call: Callable[[_Own], object]) -> None:
-    """Has it called in each child of a fork, as long as there is what it is called with."""
+def at_fork(own: _Own, **calls: Callable[[_Own], object]) -> None:
+    """Has them called at each fork, when `os.register_at_fork` says, as long as there is what they are called with."""
     here = weakref.ref(own)
 
-    def called() -> None:
-        if (it := here()) is not None:
-            call(it)
+    def called(call: Callable[[_Own], object]) -> Callable[[], None]:
+        def at() -> None:
+            if (it := here()) is not None:
+                call(it)
+
+        return at
 
     if hasattr(os, "register_at_fork"):
-        os.register_at_fork(after_in_child=called)
+        os.register_at_fork(**{when: called(call) for when, call in calls.items()})
 
 
 class Instrument(_library.Instrument):
@@ -300,7 +303,7 @@ class Metrics:
         self._fill(run, run.warnings())
         teller.names += (one.name for one in self.instruments)
         if reopen_in_child:
-            in_child(run, lambda own: own.open_anew(catalogue, config, certificate, time.time_ns()))
+            at_fork(run, after_in_child=lambda own: own.open_anew(catalogue, config, certificate, time.time_ns()))
         return self
 
     def _fill(self, run: _library.Run, warnings: str) -> None:

@@ -24,7 +24,7 @@ from pathlib import Path
 from typing import IO
 
 from wormweekly import Attributes, Ended, Metrics, Reader, ThreadRefusal
-from wormweekly._metrics import in_child
+from wormweekly._metrics import at_fork
 from wormweekly.exporters.pages import Gauge, Page, Pages, no_gauge
 
 __all__ = ["PageFault", "PageFolder"]
@@ -42,6 +42,8 @@ class PageFolder:
     _name: str
     _turn: threading.Lock  # held while it writes
     _ended: threading.Event
+    _stopped: threading.Event  # ends the thread that writes
+    _thread: threading.Thread
     _lives: IO[str]  # locked until this process ends, however it does
 
     def __init__(
@@ -63,7 +65,12 @@ class PageFolder:
         self._interval = interval
         self._begin()
         atexit.register(self.close)
-        in_child(self, PageFolder._begin_in_child)
+        at_fork(
+            self,
+            before=PageFolder._rest,
+            after_in_parent=PageFolder._go_on,
+            after_in_child=PageFolder._begin_in_child,
+        )
 
     def page(self) -> bytes:
         """A page of all processes, in the text format 0.0.4."""
@@ -91,6 +98,7 @@ class PageFolder:
             if not self._ended.is_set():
                 self._write()
                 self._ended.set()
+                self._stopped.set()
                 self._lives.close()
 
     def _begin(self) -> None:
@@ -100,7 +108,7 @@ class PageFolder:
         self._lives = self._path(".lock").open("w")
         fcntl.flock(self._lives, fcntl.LOCK_EX)
         self.write()
-        threading.Thread(target=self._run, name="wormweekly pages", daemon=True).start()
+        self._go_on()
 
     def _begin_in_child(self) -> None:
         self._lives.close()  # here alone
@@ -117,8 +125,19 @@ class PageFolder:
     def _write(self) -> None:
         _replace(self._path(".page"), self._page.text())
 
+    def _go_on(self) -> None:
+        if not self._ended.is_set():
+            self._stopped = threading.Event()
+            self._thread = threading.Thread(target=self._run, name="wormweekly pages", daemon=True)
+            self._thread.start()
+
+    def _rest(self) -> None:
+        """Ends the thread before a fork: what it holds then would be held in the child for ever."""
+        self._stopped.set()
+        self._thread.join()
+
     def _run(self) -> None:
-        while not self._ended.wait(self._interval):
+        while not self._stopped.wait(self._interval):
             try:
                 self.write()
             except Exception:  # the thread is needed again, as when there is room
