@@ -42,7 +42,7 @@ def wants(lines, *wanted):
 budgets = ", ".join(f"i{number} = 1" for number in range(514))
 short = f"format = 3\n[[recorder]]\nname = 'r'\nbudget = {{ {budgets} }}\n"
 wants(
-    told("expand short.toml", 1, short=short),
+    told("expand short.toml", 3, short=short),
     'short.toml: recorder 0 "r": field "budget" is too long; at most 512 budgets and a default are allowed',
 )
 

@@ -1,6 +1,5 @@
 -- Which faults stop a command before it writes, and the exit status of each.
 use Rattle.std.specs.Prelude.{ℕ}
-use Rattle.metric_kit_commands.specs.Faults.{status_of as kit_status}
 use Rattle.metric_kit_commands.specs.declared.fault.KitFault.{KitFault}
 use Rattle.metric_kit_commands.specs.declared.fault.KitFault.TheVariants as kit
 use Rattle.wormweekly_commands.specs.declared.folder.Unread.{Unread}
@@ -11,10 +10,9 @@ use Rattle.wormweekly_commands.specs.declared.fault.ConsoleFault.TheVariants as 
 use Rattle.wormweekly_commands.specs.declared.fault.PageFault.{PageFault}
 use Rattle.wormweekly_commands.specs.declared.fault.PageFault.TheVariants as pages
 
--- 4 when out of memory, 1 where the file is a catalogue that is refused, else 3
+-- 4 when out of memory, else 3
 abbrev pub unread_status : Unread → ℕ
 unread_status unread.Memory = 4
-unread_status unread.Unexpanded = 1
 unread_status _ = 3
 
 -- 1 where the files have no reader for a page, 2 where the words are wrong
@@ -23,7 +21,17 @@ page_status pages.NoneServed = 1
 page_status (pages.Exposure fault) = 1
 page_status _ = 2
 
--- The status of a fault of `metric_kit` is that of `metric_kit`.
+-- 3 where a file has a fault, 4 when out of memory, 5 where a write failed, else 1: the files can be
+-- read, and what is asked for is refused
+abbrev pub kit_status : KitFault → ℕ
+kit_status kit.Read = 3
+kit_status (kit.Input line) = 3
+kit_status (kit.Catalogue fault) = 3
+kit_status (kit.Config fault) = 3
+kit_status kit.Memory = 4
+kit_status kit.Write = 5
+kit_status _ = 1
+
 abbrev pub status_of : ConsoleFault → ℕ
 status_of (faults.Unread role cause) = unread_status cause
 status_of (Overwrites role) = 2

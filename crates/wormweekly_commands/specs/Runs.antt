@@ -269,10 +269,10 @@ pub record IsUnexpanded (known : Known) (files : Files) (fault : ShortFault) : T
   pub is_held : IsHeld known.held files.catalogue source
   pub first : fault ≢ short.Memory → expansion_of source ≡ Err fault
 
--- 4 when out of memory, else 1
+-- 4 when out of memory, else 3
 abbrev pub short_status : ShortFault → ℕ
 short_status short.Memory = 4
-short_status _ = 1
+short_status _ = 3
 
 -- The catalogue is refused by its first fault, and nothing is written.
 pub record RefusesShort (known : Known) (files : Files) (writing : Writing) (status : ℕ) : Type 0 where

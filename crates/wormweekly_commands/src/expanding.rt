@@ -102,7 +102,7 @@ fn stop_short<E: Sink>(
     };
     match fault {
         ShortFault::Memory => 4,
-        _ => 1,
+        _ => 3,
     }
 }
 

@@ -1,6 +1,6 @@
 //! Why a command stops.
 ghost use Rattle.std.specs.Prelude.{◌≡◌};
-ghost use Rattle.wormweekly_commands.specs.Faults.{IsDeviceFault, page_status, status_of, unread_status};
+ghost use Rattle.wormweekly_commands.specs.Faults.{IsDeviceFault, kit_status, page_status, status_of, unread_status};
 
 use crate::folder::{Unread, Unwritten};
 use metric_exposure::ExposureFault;
@@ -89,9 +89,25 @@ impl ConsoleFault {
             ConsoleFault::Overwrites { .. } => 2,
             ConsoleFault::Unwritten { .. } => 5,
             ConsoleFault::Page(fault) => page_status(*fault),
-            ConsoleFault::Old(fault) => fault.status(),
-            ConsoleFault::Kit(fault) => fault.status(),
+            ConsoleFault::Old(fault) => kit_status(*fault),
+            ConsoleFault::Kit(fault) => kit_status(*fault),
         }
+    }
+}
+
+// A file with a fault is told apart from files that can be read and are refused.
+fn kit_status(fault: KitFault) -> u8
+    ensures { result ≡ kit_status fault }
+{
+    match fault {
+        KitFault::Read | KitFault::Input { .. } | KitFault::Catalogue(_) | KitFault::Config(_) => 3,
+        KitFault::Certificate(_)
+        | KitFault::Check(_)
+        | KitFault::Make(_)
+        | KitFault::Audit(_)
+        | KitFault::Finish(_) => 1,
+        KitFault::Memory => 4,
+        KitFault::Write => 5,
     }
 }
 
@@ -113,8 +129,8 @@ fn unread_status(cause: Unread) -> u8
 {
     match cause {
         Unread::Memory => 4,
-        Unread::Unexpanded => 1,
-        Unread::Missing
+        Unread::Unexpanded
+        | Unread::Missing
         | Unread::Directory
         | Unread::Denied
         | Unread::TooLong

@@ -35,9 +35,9 @@ use metric_text::lines;
 use std::alloc::Global;
 
 /// Runs what a command line asks for, in a folder and into a sink, tells on `errors` why it stops, and gives the
-/// program's exit status: 0 where it is done, 1 where the files are refused or remarks are errors, 2 where the words
-/// name no command or a file to write to that is read, 3 where a file is unreadable, 4 when out of memory, 5 where a
-/// write failed. A table is `columns` wide at most where the request does not say how wide; 0 means that it may be as
+/// program's exit status: 0 where it is done, 1 where what is asked for is refused or denied, 2 where the words name no
+/// command or a file to write to that is read, 3 where a file cannot be read or has a fault, 4 when out of memory, 5
+/// where a write failed. A table is `columns` wide at most where the request does not say how wide; 0 means that it may be as
 /// wide as it likes.
 pub fn run_request<F: Folder, W: Sink, E: Sink>(
     alloc: Global,

@@ -29,7 +29,8 @@ const EXAMPLE: &str = "Example:
   wormweekly make catalogue.toml config.toml -o certificate.toml
   wormweekly check catalogue.toml config.toml certificate.toml
 
-Status: 0 done, 1 refused, 2 usage, 3 unreadable input, 4 no memory, 5 a write failed.";
+Status: 0 done, 1 refused or denied, 2 usage, 3 a file with a fault, 4 no memory, 5 a write failed,
+141 the pipe of standard output was closed.";
 
 const FORMS: &str =
     "Print batches alone, `otlp-json` or `otlp-bytes`, or the page of the last of them, \
