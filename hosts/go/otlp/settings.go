@@ -14,8 +14,8 @@ import (
 
 const defaultEndpoint = "http://localhost:4318/v1/metrics"
 
-// Settings are where metrics go, and how. What is left out is as with an empty environment. Resource is what produces them; where it has no "service.instance.id", an exporter
-// draws one, so that no two processes have the same.
+// Settings are where metrics go, and how. What is left out is as with an empty environment. Resource is what produces
+// them; where it has no "service.instance.id", an exporter draws one, so that no two processes have the same.
 type Settings struct {
 	Endpoint          string
 	Headers           map[string]string

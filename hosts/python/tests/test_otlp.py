@@ -233,6 +233,8 @@ class Environment(unittest.TestCase):
         for name, value in [
             ("OTEL_EXPORTER_OTLP_ENDPOINT", "host:4318"),
             ("OTEL_EXPORTER_OTLP_METRICS_ENDPOINT", "http://"),
+            ("OTEL_EXPORTER_OTLP_ENDPOINT", "http://["),
+            ("OTEL_EXPORTER_OTLP_ENDPOINT", "http://host:99999"),
             ("OTEL_EXPORTER_OTLP_TIMEOUT", "10s"),
             ("OTEL_METRIC_EXPORT_INTERVAL", "0"),
             ("OTEL_METRIC_EXPORT_INTERVAL", "9" * 5000),

@@ -32,6 +32,7 @@ __all__ = ["PageFault", "PageFolder"]
 _LOGGER = logging.getLogger("wormweekly")
 _LABEL = re.compile(r'([A-Za-z0-9_]+)="(?:[^"\\]|\\.)*"')
 
+
 class PageFault(ValueError):
     """A page cannot be added to others."""
 

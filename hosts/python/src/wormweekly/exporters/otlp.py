@@ -90,7 +90,7 @@ class _Environment:
         given = self.text(name)
         if not given:
             return "http://localhost:4318/v1/metrics"
-        if urlsplit(given).scheme not in ("http", "https") or not urlsplit(given).netloc:
+        if not _is_url(given):
             raise SettingsFault(f"{name}: no URL of http or https: {given!r}")
         # that of all signals is the folder of each signal's path
         return given if "METRICS" in name else given.rstrip("/") + "/v1/metrics"
@@ -209,9 +209,11 @@ class Exporter:
     def _roll_over(self) -> None:
         at = time.time_ns()
         ended = self._metrics.roll_over(at)
-        self._collect(ended, at)
-        if self._on_roll_over is not None:
-            self._on_roll_over(ended)
+        try:
+            self._collect(ended, at)
+        finally:
+            if self._on_roll_over is not None:
+                self._on_roll_over(ended)
 
     def _collect(self, metrics: Metrics, at: int) -> None:
         self._due = time.monotonic() + self.settings.interval
@@ -291,6 +293,14 @@ def _sdk() -> dict[str, str | int | bool]:
         "telemetry.sdk.name": "wormweekly",
         "telemetry.sdk.version": __version__,
     }
+
+
+def _is_url(given: str) -> bool:
+    try:
+        parts = urlsplit(given)
+        return parts.scheme in ("http", "https") and bool(parts.hostname) and parts.port != 0
+    except ValueError:  # as for a bracket or a port that is none
+        return False
 
 
 def _asked_pause(after: str) -> float:
