@@ -27,6 +27,8 @@ mod keys;
 #[cfg(test)]
 mod lanes;
 #[cfg(test)]
+mod lives;
+#[cfg(test)]
 mod page;
 #[cfg(test)]
 mod periods;
