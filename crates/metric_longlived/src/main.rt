@@ -9,8 +9,7 @@ use anyhow::{Result, ensure};
 use ledger::{Device, Ledger};
 use metric_sdk::{
     AnySeat, Asking, Attr, Counter, Marked, MeterProvider, NextRun, NoGate, Outlet, Plan, Queued,
-    Recorder, Runs, Service, ServiceFault, StopFlag, Totals, Work, counter, headrooms, live, now,
-    open,
+    Recorder, Runs, Service, StopFlag, Totals, Work, counter, headrooms, live, now, open,
 };
 use std::alloc::Global;
 use std::sync::Wait;
@@ -91,9 +90,8 @@ fn opened<'a, R: Wait + Clock + Print>(
     let mut runs = Runs::new();
     let (provider, recorders, readers) = open(rt, alloc, CATALOGUE, CONFIG, now(rt)?, &mut runs)?;
     tell_headroom(rt, alloc, provider.plan())?;
-    let office = Service::builder(provider, readers, runs).tell(alloc, "new", queue, 1);
-    let office = office.map_err(ServiceFault::from)?.build();
-    Ok((office.map_err(ServiceFault::from)?, recorders))
+    let office = Service::builder(provider, readers, runs).tell(alloc, "new", queue, 1)?;
+    Ok((office.build()?, recorders))
 }
 
 // Tells what was exported. Fails where that is not all that was recorded, once.

@@ -3,3 +3,4 @@ mod Turning
 mod Handing
 mod Patience
 mod ShownLaws
+mod WindowLaws

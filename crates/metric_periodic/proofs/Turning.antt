@@ -1,6 +1,5 @@
 -- The turns of a run, one after the other.
-use Rattle.std.proofs.Common.{◌≡◌, ℕ, suc, ◌+◌, Bool, None, refl, add-one}
-use Rattle.metric_periodic.specs.Outlets.{MakesTurnsOf, Turning}
+use Rattle.std.proofs.Common.{◌≡◌, ℕ, ◌+◌, None, refl, add-one}
 use Rattle.metric_periodic.specs.Collections.{Collecting}
 use Rattle.metric_export.specs.ExporterCalls.{Calls}
 use Rattle.metric_periodic.specs.Turns.{AreTurns, Giving, IsTurn, Progress, stop_of}
@@ -19,9 +18,3 @@ pub no_stop : (tick : Tick) → ((moment : ℕ) (cause : StopCause) → tick ≡
 no_stop (At moment) other = refl
 no_stop (Woken moment) other = refl
 no_stop (Stop moment cause) other = absurd (other moment cause refl)
-
--- one call for a turn more
-pub more_made : {O : Type 0} (turns : Turning O) (a b c : O) (now : ℕ) (is_asked : Bool) (next : ℕ) → MakesTurnsOf turns a b
-    → turns now is_asked b c next → MakesTurnsOf turns a c
-more_made turns a b c now is_asked next made turn =
-    record { made = suc made.made; each = (b, (made.each, (now, (is_asked, (next, turn))))) }

@@ -1,5 +1,6 @@
 -- The calls of an exporter, each for one batch, and how they are counted.
-use Rattle.std.specs.Prelude.{◌≡◌, ◌==◌, ◌||◌, ℕ, Bool, true, false, List, [], ◌∷◌, Result, Ok, Err, length}
+use Rattle.std.specs.Prelude.{◌≡◌, ◌==◌, ◌||◌, ℕ, Bool, true, false, List, [], ◌∷◌}
+use Rattle.std.specs.Prelude.{Result, Ok, Err, is_err, length}
 use Rattle.metric_io.specs.Counts.{next_count}
 use Rattle.metric_history.specs.declared.batch.Batch.{Batch}
 use Rattle.metric_export.specs.ExporterCalls.{Calls}
@@ -53,15 +54,15 @@ ExportsEach exports old new [] = new ≡ old
 ExportsEach {E} exports old new (batch ∷ batches) =
     (mid : Tally E) × (ExportsOne exports old mid batch × ExportsEach exports mid new batches)
 
--- a refused collection is counted
-abbrev pub with_collection : {E : Type 0} → Tally E → Collected → Tally E
-with_collection counts (Ok batches) = counts
-with_collection counts (Err fault) = record counts { refused = next_count counts.refused }
+-- a collection in which something was refused is counted
+abbrev pub with_refusal : {E : Type 0} → Tally E → Bool → Tally E
+with_refusal counts false = counts
+with_refusal counts true = record counts { refused = next_count counts.refused }
 
 -- a collection was counted, and the exporter called for each batch that it gave
 abbrev pub ExportsCollected : {E : Type 0} → Exporting E → Tally E → Tally E → Collected → Type 0
 ExportsCollected exports old new collected =
-    ExportsEach exports (with_collection old collected) new (batches_of collected)
+    ExportsEach exports (with_refusal old (is_err collected)) new (batches_of collected)
 
 -- the failed calls after one with this answer
 abbrev pub failed_after : ℕ → Result (Unit {0}) ExportFault → ℕ

@@ -7,3 +7,4 @@ pub mod Turns
 pub mod Runs
 pub mod Shown
 pub mod Outlets
+pub mod Windows

@@ -5,7 +5,7 @@ use Rattle.metric_periodic.specs.declared.tick.StopCause.{StopCause}
 use Rattle.metric_periodic.specs.declared.tick.Tick.{Tick}
 use Rattle.metric_periodic.specs.Collections.{Collected, Collecting, CollectingLast}
 use Rattle.metric_export.specs.ExporterCalls.{Calls}
-use Rattle.metric_periodic.specs.Exported.{ExportsCollected, IsFlushed, IsRetried, ShutsDown, Tally}
+use Rattle.metric_periodic.specs.Exported.{ExportsCollected, IsRetried, ShutsDown, Tally}
 use Rattle.metric_periodic.specs.Turns.{Giving, MakesTurns, Progress, stop_of}
 
 -- After its turns a run makes the last collection, at the moment of the last tick, calls the

@@ -1,48 +1,42 @@
 -- What an exporter may still show of each instrument, by what an outlet handed on.
-use Rattle.std.specs.Prelude.{Bool, true, false, ◌||◌, List, [], ◌∷◌, Option, Some, None}
-use Rattle.std.specs.Prelude.{if◌then◌else◌, slice_get, slice_set}
+use Rattle.std.specs.Prelude.{◌≡◌, ◌==◌, ℕ, Bool, false, not, ◌||◌, ◌&&◌}
+use Rattle.std.specs.Prelude.{List, Option, Some, None, slice_get}
+use Rattle.std.specs.List.{list_any}
+use Rattle.std.specs.Option.{option_map}
 use Rattle.metric_export.specs.Handings.{has_points}
 use Rattle.metric_history.specs.declared.batch.Batch.{Batch}
 use Rattle.metric_periodic.specs.declared.shown.Shown.{Shown}
-use Rattle.metric_periodic.specs.declared.shown.Shown.TheVariants.{Cleared, EndedRun, Nothing, ThisRun}
 
 -- whether points of an ended run may be shown
 abbrev pub is_ended : Option Shown → Bool
-is_ended (Some Nothing) = false
-is_ended (Some ThisRun) = false
-is_ended (Some EndedRun) = true
-is_ended (Some Cleared) = true
 is_ended None = false
+is_ended (Some shown) = shown.ended_run
 
--- # what an outlet hands on (profile) [is_told, shown_after, settled, in_next_run]
+-- # what an outlet hands on (profile) [is_told, Notes, in_next_run]
 -- Each batch with points; and one without where points of an ended run may still be shown of its
 -- instrument, whose place it takes. Where a batch was refused, that is tried again.
 abbrev pub is_told : List Shown → Batch → Bool
 is_told shown batch = has_points batch || is_ended (slice_get shown batch.instrument)
 
--- what is shown of the instrument of a batch that was handed on
-abbrev pub shown_by : Batch → Shown
-shown_by batch = if has_points batch then ThisRun else Cleared
+-- whether a batch is of an instrument
+abbrev pub is_of : ℕ → Batch → Bool
+is_of instrument batch = batch.instrument == instrument
 
--- what is shown after one batch
-abbrev pub shown_with : List Shown → Batch → List Shown
-shown_with shown batch = slice_set shown batch.instrument (shown_by batch)
+-- What may be shown of an instrument after some batches were handed on, by whether one was refused:
+-- points of this run where a batch of it has some, and of an ended run unless one took their place.
+abbrev pub noted : Bool → List Batch → ℕ → Shown → Shown
+noted is_refused batches instrument old = record {
+  this_run = old.this_run
+      || list_any (λ batch. is_of instrument batch && has_points batch) batches;
+  ended_run = old.ended_run && (is_refused || not (list_any (is_of instrument) batches));
+}
 
--- and after some
-abbrev pub shown_after : List Shown → List Batch → List Shown
-shown_after shown [] = shown
-shown_after shown (batch ∷ batches) = shown_after (shown_with shown batch) batches
-
--- what is known to be shown by whether some of what was handed on was refused
-abbrev pub settled : Bool → Shown → Shown
-settled is_refused Nothing = Nothing
-settled is_refused ThisRun = ThisRun
-settled is_refused EndedRun = EndedRun
-settled is_refused Cleared = if is_refused then EndedRun else Nothing
+-- and of each one
+abbrev pub Notes : Bool → List Batch → List Shown → List Shown → Type 0
+Notes is_refused batches old new =
+    (instrument : ℕ) → slice_get new instrument
+    ≡ option_map (noted is_refused batches instrument) (slice_get old instrument)
 
 -- what is shown when the next run begins
 abbrev pub in_next_run : Shown → Shown
-in_next_run Nothing = Nothing
-in_next_run ThisRun = EndedRun
-in_next_run EndedRun = EndedRun
-in_next_run Cleared = EndedRun
+in_next_run old = record { this_run = false; ended_run = old.this_run || old.ended_run }

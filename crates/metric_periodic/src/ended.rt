@@ -19,7 +19,8 @@ pub enum Uncollected {
 /// Batches that an exporter neither took nor keeps.
 #[derive(Drop)]
 pub struct Unexported {
-    /// In order. The exporter refused the first, and was not handed the others. They can be exported later, by the plan.
+    /// In order. The exporter refused the first, and was not handed the others. They can be exported later, by the
+    /// plan.
     pub batches: Vec<Batch>,
     /// Why.
     pub fault: ExportFault,

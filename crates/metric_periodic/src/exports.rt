@@ -3,11 +3,10 @@ ghost use Rattle.std.specs.Prelude.{◌≡◌, ◌≤◌, ◌==◌, length, not}
 ghost use Rattle.metric_export.specs.ExporterCalls.{IsExport, IsFlush, IsRetry, IsShutdown};
 ghost use Rattle.metric_periodic.specs.Counts.{delayed_after, exported_after, refused_after};
 ghost use Rattle.metric_export.specs.Handings.{HandsOnInOrder, TakesOrRefuses};
-ghost use Rattle.metric_periodic.specs.Exported.{Answered, ExportsCollected, ExportsEach, Flushes, Retries, RetriesWhere, ShutsDown, tally, with_collection};
-ghost use Rattle.metric_periodic.specs.Outlets.{HandsOn, with_refusal};
+ghost use Rattle.metric_periodic.specs.Exported.{Answered, ExportsCollected, ExportsEach, Flushes};
+ghost use Rattle.metric_periodic.specs.Exported.{Retries, RetriesWhere, ShutsDown, tally, with_refusal};
 
 use crate::counts::Listener;
-use crate::ended::{Uncollected, Unexported};
 use metric_export::{ExportFault, Handed, MetricExporter};
 use metric_history::Batch;
 use metric_plan::Plan;
@@ -86,19 +85,10 @@ impl<E: MetricExporter> Exports<E> {
         ensures { ExportsCollected (IsExport E.MetricExporter plan.now) self.old self.new
             collected.now }
     {
-        self.count_collection(collected);
+        self.count_refusal(collected.is_err());
         match collected {
             Ok(batches) => self.hand_on(alloc, plan, batches),
             Err(fault) => self.hand_on(alloc, plan, &fault.done),
-        }
-    }
-
-    // Counts a collection that was refused.
-    fn count_collection(&mut self, collected: &Result<Vec<Batch>, AllFault>)
-        ensures { self.new ≡ with_collection self.old collected.now }
-    {
-        if collected.is_err() {
-            self.refused = self.refused.saturating_add(1);
         }
     }
 
@@ -117,34 +107,22 @@ impl<E: MetricExporter> Exports<E> {
     }
 
     /// Counts a collection in which something was refused.
-    pub(crate) fn count_refusal(&mut self, uncollected: &Option<Uncollected>)
-        ensures { self.new ≡ with_refusal self.old uncollected.now }
+    pub(crate) fn count_refusal(&mut self, is_refused: bool)
+        ensures { self.new ≡ with_refusal self.old is_refused }
     {
-        if uncollected.is_some() {
+        if is_refused {
             self.refused = self.refused.saturating_add(1);
         }
     }
 
-    /// Hands on batches in order, each once, up to the first that the exporter neither takes nor keeps. That one and
-    /// those after it are left.
-    pub(crate) fn hand_on_until_refused(
+    /// Hands on batches in order, each once, up to the first that the exporter neither takes nor keeps. How many were
+    /// taken, and why the next one was refused, where one was.
+    pub(crate) fn hand_on_in_order(
         &mut self,
         alloc: Global,
         plan: &Plan,
-        batches: Vec<Batch>,
-    ) -> Option<Unexported>
-        ensures { HandsOn (Answered (IsExport E.MetricExporter plan.now)) self.old self.new
-            batches.items result }
-    {
-        let handed = self.hand_on_in_order(alloc, plan, &batches);
-        let fault = handed.refused?;
-        let mut batches = batches;
-        batches.drain(..handed.taken);
-        Some(Unexported { batches, fault })
-    }
-
-    // How many were taken, and why the next one was refused, where one was.
-    fn hand_on_in_order(&mut self, alloc: Global, plan: &Plan, batches: &[Batch]) -> Handed
+        batches: &[Batch],
+    ) -> Handed
         ensures handed { HandsOnInOrder (Answered (IsExport E.MetricExporter plan.now))
             self.old self.new batches.now result.taken result.refused }
         ensures within { result.taken ≤ length batches.now }

@@ -1,19 +1,21 @@
 //! A reader and its way out, over all runs.
-ghost use Rattle.std.specs.Prelude.{◌≡◌, ◌<◌, ◌==◌, ◌||◌, IfErr, IfOk, IfSome, OnOk, false, length, replicate, slice_get, true};
+ghost use Rattle.std.specs.Prelude.{◌≡◌, ◌<◌, ◌≤◌, ◌==◌, ◌||◌, IfErr, IfOk, IfSome, OnOk};
+ghost use Rattle.std.specs.Prelude.{length, replicate, slice_get, true};
 ghost use Rattle.std.specs.Option.{option_map};
 ghost use Rattle.metric_export.specs.ExporterCalls.{calls_of};
-ghost use Rattle.metric_periodic.specs.Outlets.{Begins, Counts, EndsOutlet, IsLeftBy, TurnsOn, TurnsOutlet, TurnsWhenDue, due_after, new_outlet, seat_place, tick_due, waiting_from};
+ghost use Rattle.metric_periodic.specs.Outlets.{EndsOutlet, IsLeft, IsLeftBy, TurnsOn, TurnsOutlet, due_after};
+ghost use Rattle.metric_periodic.specs.Outlets.{new_outlet, seat_place, tick_due, unshown};
 ghost use Rattle.metric_periodic.specs.Ticks.{is_woken};
-ghost use Rattle.metric_periodic.specs.declared.shown.Shown.TheVariants.{Nothing};
 ghost use Rattle.metric_plan.specs.Plans.{print_of};
 ghost use Rattle.metric_slot.specs.declared.seen.Seen.{Seen as sightings};
 
-use crate::ended::ReaderEnd;
+use crate::ended::{ReaderEnd, Unexported};
 use crate::exports::Exports;
+use crate::outlets::Outlets;
 use crate::showing::Showing;
 use crate::shown::Shown;
 use crate::tick::Tick;
-use metric_export::{ExportFault, MetricExporter};
+use metric_export::{ExportFault, Handed, MetricExporter};
 use metric_history::{Batch, Book};
 use metric_plan::Plan;
 use metric_provider::{Collector, Gate, Provider, Total};
@@ -21,12 +23,13 @@ use std::alloc::{AllocError, Global};
 use std::marker::Model;
 use std::sync::Wait;
 
-/// A reader and its way out: its seat, one exporter, and what that took, over all runs of a service. So no reader can be
-/// handed to another's exporter.
+/// A reader and its way out: its seat, one exporter, and what that took, over all runs of a service. So no reader can
+/// be handed to another's exporter.
 ///
 /// Each turn collects of each instrument and hands on each batch with points, once and in order. Where an exporter may
 /// still show points of a run that has ended, as a page does, the next batch of that instrument is handed on also
-/// without points, so that they go. A refused instrument hides no other, and loses nothing: the next turn tries it again.
+/// without points, so that they go. A refused instrument hides no other, and loses nothing: the next turn tries it
+/// again.
 #[derive(Drop)]
 pub struct Outlet<E> {
     showing: Showing,
@@ -61,8 +64,8 @@ pub struct OutletLeft<E> {
 }
 
 impl<E: MetricExporter> Outlet<E> {
-    /// An outlet of this seat of the plan by this exporter, with a turn every so many milliseconds, at least 1, where it is
-    /// driven by a clock.
+    /// An outlet of this seat of the plan by this exporter, with a turn every so many milliseconds, at least 1, where
+    /// it is driven by a clock.
     ///
     /// # Errors
     ///
@@ -104,9 +107,9 @@ impl<E: MetricExporter> Outlet<E> {
         }
     }
 
-    /// One turn, at the moment of a tick: collects of each instrument, hands on what is to be told, lets the exporter try
-    /// again what it keeps where the tick was asked for ([`Tick::Woken`]) or nothing was handed on, and flushes it.
-    /// What failed is counted.
+    /// One turn, at the moment of a tick: collects of each instrument, hands on what is to be told, lets the exporter
+    /// try again what it keeps where the tick was asked for ([`Tick::Woken`]) or nothing was handed on, and flushes it.
+    /// What failed is counted. The next turn is due a period later.
     pub fn turn<R: Wait, B: Book, G: Gate>(
         &mut self,
         rt: &R,
@@ -114,10 +117,8 @@ impl<E: MetricExporter> Outlet<E> {
         provider: &Provider<B, G>,
         tick: Tick,
     )
-        ensures turn { TurnsOutlet provider.now (calls_of E.MetricExporter provider.now.plan) tick
-            self.old.showing self.new.showing self.old.counts self.new.counts }
-        ensures period { self.new.period ≡ self.old.period }
-        ensures due { self.new.due ≡ self.old.due }
+        ensures { TurnsOn provider.now (calls_of E.MetricExporter provider.now.plan) tick
+            self.old self.new }
     {
         make_turn(
             rt,
@@ -127,72 +128,12 @@ impl<E: MetricExporter> Outlet<E> {
             &mut self.showing,
             &mut self.exports,
         );
-    }
-
-    /// A turn where one is due at this moment or was asked for. When the next one is due: a period after a turn, or after
-    /// the first call of a run, which makes none unless it was asked for.
-    pub(crate) fn turn_when_due<R: Wait, B: Book, G: Gate>(
-        &mut self,
-        rt: &R,
-        alloc: Global,
-        provider: &Provider<B, G>,
-        now: u64,
-        is_asked: bool,
-    ) -> u64
-        ensures { TurnsWhenDue provider.now (calls_of E.MetricExporter provider.now.plan) now is_asked
-            self.old self.new result }
-    {
-        match tick_due(self.due, now, is_asked) {
-            Some(tick) => self.turn_on(rt, alloc, provider, tick),
-            None => self.wait_from(now),
-        }
-        self.due
-    }
-
-    // A turn, and the moment of the next one.
-    fn turn_on<R: Wait, B: Book, G: Gate>(
-        &mut self,
-        rt: &R,
-        alloc: Global,
-        provider: &Provider<B, G>,
-        tick: Tick,
-    )
-        ensures { TurnsOn provider.now (calls_of E.MetricExporter provider.now.plan) tick self.old
-            self.new }
-    {
-        self.turn(rt, alloc, provider, tick);
         self.due = due_after(tick.moment(), self.period);
     }
 
-    // Begins the wait for the first turn of a run.
-    fn wait_from(&mut self, now: u64)
-        ensures { self.new ≡ waiting_from now self.old }
-    {
-        if self.due == 0 {
-            self.due = due_after(now, self.period);
-        }
-    }
-
-    /// Whether the last batches count all recordings that these totals do.
-    pub(crate) fn counts_all(&self, totals: &[Total]) -> bool
-        ensures counted { result ≡ true → Counts self.now.showing.seat totals.now }
-        ensures uncounted { result ≡ false → Counts self.now.showing.seat totals.now → ⊥ }
-    {
-        for (instrument, total) in totals.iter().enumerate() {
-            // Instruments have numbers of 32 bits.
-            let Ok(instrument) = u32::try_from(instrument) else {
-                return true;
-            };
-            if self.seen(instrument) != Some(total.count) {
-                return false;
-            }
-        }
-        true
-    }
-
-    /// The last turn of a run, when nobody records any more: collects of each instrument, hands on what is to be told, up
-    /// to the first batch that the exporter neither takes nor keeps, lets it try again what it keeps, and flushes it.
-    /// What is left is handed back. The seat stays, so that the run may go on.
+    /// The last turn of a run, when nobody records any more: collects of each instrument, hands on what is to be told,
+    /// up to the first batch that the exporter neither takes nor keeps, lets it try again what it keeps, and flushes
+    /// it. What is left is handed back. The seat stays, so that the run may go on.
     pub fn end_run<R: Wait, B: Book, G: Gate>(
         &mut self,
         rt: &R,
@@ -205,9 +146,10 @@ impl<E: MetricExporter> Outlet<E> {
     {
         let (plan, reader) = (provider.plan(), self.number());
         let (batches, uncollected) = self.showing.collect(rt, alloc, provider, now);
-        self.exports.count_refusal(&uncollected);
-        let unexported = self.exports.hand_on_until_refused(alloc, plan, batches);
-        self.showing.settle(unexported.is_some());
+        self.exports.count_refusal(uncollected.is_some());
+        let handed = self.exports.hand_on_in_order(alloc, plan, &batches);
+        self.showing.note(&batches, handed.refused.is_some());
+        let unexported = left_of(batches, handed);
         let unsent = self.exports.retry(alloc, plan).err();
         let unflushed = self.exports.flush().err();
         ReaderEnd {
@@ -216,22 +158,6 @@ impl<E: MetricExporter> Outlet<E> {
             unexported,
             unsent,
             unflushed,
-        }
-    }
-
-    /// Goes on in the next run: takes the seat of its reader out of those of that run, and leaves the others in their
-    /// order. Whether there was one; else nothing changes. The exporter and the counts go on.
-    pub fn begin_run(&mut self, seats: &mut Vec<Collector>) -> bool
-        ensures begun { let place = seat_place self.old.showing.seat.number seats.old.items in
-            Begins place self.old self.new seats.old.items seats.new.items result }
-    {
-        match seat_place(self.number(), seats) {
-            None => false,
-            Some(place) => {
-                self.showing.begin(seats.remove(place));
-                self.due = 0;
-                true
-            }
         }
     }
 
@@ -309,12 +235,100 @@ impl<E: MetricExporter> Outlet<E> {
     }
 }
 
+impl<E: MetricExporter + Drop> Outlets for Outlet<E> {
+    ghost use Rattle.std.specs.Prelude.{◌≡◌, ◌∷◌, []};
+    ghost use Rattle.metric_export.specs.ExporterCalls.{calls_of};
+    ghost use Rattle.metric_periodic.specs.Outlets.{Begins, Counts, EndsOutlet, TurnsWhenDue, seat_place};
+    ghost use Rattle.metric_periodic.specs.declared.ended.ReaderEnd.{ReaderEnd};
+
+    ghost count = { λ _. 1 };
+
+    ghost turns = { λ p. TurnsWhenDue p (calls_of E.MetricExporter p.plan) };
+
+    ghost ends = { λ p now old new told. (end : ReaderEnd) × ((told ≡ end ∷ [])
+        × EndsOutlet p now (calls_of E.MetricExporter p.plan) old new end) };
+
+    ghost counts = { λ outlet. Counts outlet.showing.seat };
+
+    ghost begins = { λ old new seats.
+        Begins (seat_place old.showing.seat.number seats) old new seats };
+
+    fn count(&self) -> usize {
+        1
+    }
+
+    fn turn_if_due<R: Wait, B: Book, G: Gate>(
+        &mut self,
+        rt: &R,
+        alloc: Global,
+        provider: &Provider<B, G>,
+        now: u64,
+        is_asked: bool,
+    ) -> u64 {
+        match tick_due(self.due, now, is_asked) {
+            Some(tick) => self.turn(rt, alloc, provider, tick),
+            // The first call of a run begins the wait.
+            None if self.due == 0 => self.due = due_after(now, self.period),
+            None => {}
+        }
+        self.due
+    }
+
+    fn end_each<R: Wait, B: Book, G: Gate>(
+        &mut self,
+        rt: &R,
+        alloc: Global,
+        provider: &Provider<B, G>,
+        now: u64,
+        all: &mut Vec<ReaderEnd>,
+    ) {
+        all.push_reserved(self.end_run(rt, alloc, provider, now));
+    }
+
+    fn are_counted(&self, totals: &[Total]) -> bool {
+        for (instrument, total) in totals.iter().enumerate() {
+            // Instruments have numbers of 32 bits.
+            let Ok(instrument) = u32::try_from(instrument) else {
+                return true;
+            };
+            if self.seen(instrument) != Some(total.count) {
+                return false;
+            }
+        }
+        true
+    }
+
+    fn begin_each(&mut self, seats: &mut Vec<Collector>) -> bool {
+        let Some(place) = seat_place(self.number(), seats) else {
+            return false;
+        };
+        self.showing.begin(seats.remove(place));
+        self.due = 0;
+        true
+    }
+}
+
 // What may be shown of each instrument of a plan: nothing.
 fn nothing_shown(alloc: Global, plan: &Plan) -> Result<Vec<Shown>, AllocError>
     ensures { IfOk result (λ shown.
-        shown.items ≡ replicate (length plan.now.facts.instruments) Nothing) }
+        shown.items ≡ replicate (length plan.now.facts.instruments) unshown) }
 {
-    vec![in alloc; Shown::Nothing; plan.catalogue().instruments().len()]
+    let unshown = Shown {
+        this_run: false,
+        ended_run: false,
+    };
+    vec![in alloc; unshown; plan.catalogue().instruments().len()]
+}
+
+// What is left of batches that were handed on up to the first that was refused: that one and those after it.
+fn left_of(batches: Vec<Batch>, handed: Handed) -> Option<Unexported>
+    requires { handed.taken ≤ length batches.items }
+    ensures { IsLeft batches.items handed.taken handed.refused result }
+{
+    let fault = handed.refused?;
+    let mut batches = batches;
+    batches.drain(..handed.taken);
+    Some(Unexported { batches, fault })
 }
 
 // The moment so many milliseconds after another one, in nanoseconds.
@@ -366,9 +380,9 @@ fn make_turn<R: Wait, B: Book, G: Gate, E: MetricExporter>(
 {
     let (plan, failed) = (provider.plan(), exports.failed());
     let (batches, uncollected) = showing.collect(rt, alloc, provider, tick.moment());
-    exports.count_refusal(&uncollected);
+    exports.count_refusal(uncollected.is_some());
     exports.hand_on(alloc, plan, &batches);
-    showing.settle(exports.has_failed_since(failed));
+    showing.note(&batches, exports.has_failed_since(failed));
     let is_due = is_retried(tick, &batches);
     exports.retry_where(alloc, plan, is_due);
     let _counted = exports.flush();

@@ -1,19 +1,18 @@
 //! All outlets of a service, as one value.
-ghost use Rattle.std.specs.Prelude.{◌≡◌, ◌≤◌, ◌+◌, ◌-◌, ◌^◌, ◌++◌, ℕ, Bool, List, false, min, true, vec_capacity, vec_len};
+ghost use Rattle.std.specs.Prelude.{◌≡◌, ◌≤◌, ◌+◌, ◌-◌, ◌^◌, ◌++◌, ℕ, Bool, List, false, min};
+ghost use Rattle.std.specs.Prelude.{true, vec_capacity, vec_len};
 ghost use Rattle.metric_seat.specs.Seats.{CollectorValue, ProviderValue};
 ghost use Rattle.metric_seat.specs.declared.total.Total.{Total};
 ghost use Rattle.metric_periodic.specs.declared.ended.ReaderEnd.{ReaderEnd};
 
 use crate::ended::ReaderEnd;
-use crate::outlet::Outlet;
-use metric_export::MetricExporter;
 use metric_history::Book;
 use metric_provider::{Collector, Gate, Provider, Total};
 use std::alloc::Global;
 use std::sync::Wait;
 
-/// The outlets of a service: none, an [`Outlet`], or a pair of these, each with an exporter of a type of its own. What is
-/// asked of them is asked of each once, in order.
+/// The outlets of a service: none, an [`Outlet`](crate::Outlet), or a pair of these, each with an exporter of a type of
+/// its own. What is asked of them is asked of each once, in order.
 ///
 /// Contracts see what each call does to them, by which a service promises that none is left out.
 pub trait Outlets: Drop {
@@ -48,7 +47,8 @@ pub trait Outlets: Drop {
     ) -> u64
         ensures { turns provider.now now is_asked self.old self.new result };
 
-    /// The last turn of each in a run, as [`Outlet::end_run`] makes it. How each ended is put last, in order.
+    /// The last turn of each in a run, as [`Outlet::end_run`](crate::Outlet::end_run) makes it. How each ended is put
+    /// last, in order.
     fn end_each<R: Wait, B: Book, G: Gate>(
         &mut self,
         rt: &R,
@@ -69,8 +69,9 @@ pub trait Outlets: Drop {
         ensures counted { result ≡ true → counts self.now totals.now }
         ensures uncounted { result ≡ false → counts self.now totals.now → ⊥ };
 
-    /// Goes on in the next run, each with the seat of its reader, as [`Outlet::begin_run`] does. Whether there was one for
-    /// each.
+    /// Goes on in the next run: each takes the seat of its reader out of those of that run, and leaves the others in
+    /// their order. The exporters and their counts go on. Whether there was a seat for each; an outlet with none stays
+    /// as it is.
     fn begin_each(&mut self, seats: &mut Vec<Collector>) -> bool
         ensures { begins self.old self.new seats.old.items seats.new.items result };
 }
@@ -119,58 +120,6 @@ impl Outlets for () {
 
     fn begin_each(&mut self, _seats: &mut Vec<Collector>) -> bool {
         true
-    }
-}
-
-impl<E: MetricExporter + Drop> Outlets for Outlet<E> {
-    ghost use Rattle.std.specs.Prelude.{◌∷◌, []};
-    ghost use Rattle.metric_export.specs.ExporterCalls.{calls_of};
-    ghost use Rattle.metric_periodic.specs.Outlets.{Begins, Counts, EndsOutlet, TurnsWhenDue, seat_place};
-
-    ghost count = { λ _. 1 };
-
-    ghost turns = { λ p. TurnsWhenDue p (calls_of E.MetricExporter p.plan) };
-
-    ghost ends = { λ p now old new told. (end : ReaderEnd) × ((told ≡ end ∷ [])
-        × EndsOutlet p now (calls_of E.MetricExporter p.plan) old new end) };
-
-    ghost counts = { λ outlet. Counts outlet.showing.seat };
-
-    ghost begins = { λ old new seats.
-        Begins (seat_place old.showing.seat.number seats) old new seats };
-
-    fn count(&self) -> usize {
-        1
-    }
-
-    fn turn_if_due<R: Wait, B: Book, G: Gate>(
-        &mut self,
-        rt: &R,
-        alloc: Global,
-        provider: &Provider<B, G>,
-        now: u64,
-        is_asked: bool,
-    ) -> u64 {
-        self.turn_when_due(rt, alloc, provider, now, is_asked)
-    }
-
-    fn end_each<R: Wait, B: Book, G: Gate>(
-        &mut self,
-        rt: &R,
-        alloc: Global,
-        provider: &Provider<B, G>,
-        now: u64,
-        all: &mut Vec<ReaderEnd>,
-    ) {
-        all.push_reserved(self.end_run(rt, alloc, provider, now));
-    }
-
-    fn are_counted(&self, totals: &[Total]) -> bool {
-        self.counts_all(totals)
-    }
-
-    fn begin_each(&mut self, seats: &mut Vec<Collector>) -> bool {
-        self.begin_run(seats)
     }
 }
 

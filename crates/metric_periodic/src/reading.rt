@@ -69,9 +69,9 @@ pub(crate) fn read_to_end<R, P, C: Seat<R, P>, E: MetricExporter, T: Ticker<R>, 
     }
 }
 
-/// Collects at each tick, hands on what was collected, as [`collect_and_export`] says, and flushes the exporter, until the
-/// ticker stops or was asked so many times; then collects once more, at the moment of the last tick, 0 where there was
-/// none; and lets the exporter try once more what it keeps.
+/// Collects at each tick, hands on what was collected, as [`collect_and_export`] says, and flushes the exporter, until
+/// the ticker stops or was asked so many times; then collects once more, at the moment of the last tick, 0 where there
+/// was none; and lets the exporter try once more what it keeps.
 fn read_all<R, P, C: Seat<R, P>, E: MetricExporter, T: Ticker<R>, L: Listener>(
     rt: &R,
     alloc: Global,

@@ -1,14 +1,14 @@
 //! The seat of a reader, with what may still be shown of each instrument.
-ghost use Rattle.std.specs.Prelude.{◌≡◌, IfOk, OnErr};
-ghost use Rattle.metric_periodic.specs.Outlets.{AreRefused, CollectsTold, Gathers, Settles, next_showing};
+ghost use Rattle.std.specs.Prelude.{◌≡◌};
+ghost use Rattle.metric_periodic.specs.Outlets.{AreRefused, CollectsTold, NotesHanded, next_showing};
 
 use crate::collecting::collect_all;
 use crate::each::{Collection, RefusedInstrument};
 use crate::ended::Uncollected;
-use crate::shown::{Shown, begin, is_told, settle, show};
+use crate::shown::{Shown, begin, is_told, note_one};
 use metric_history::{Batch, Book};
 use metric_provider::{Collector, Gate, Provider};
-use std::alloc::{AllocError, Global};
+use std::alloc::Global;
 use std::marker::Model;
 use std::sync::Wait;
 
@@ -28,25 +28,6 @@ impl Model for Showing {
 }
 
 impl Showing {
-    // Collects each instrument once, and gives the batches that are handed on.
-    fn gather<R: Wait, B: Book, G: Gate>(
-        &mut self,
-        rt: &R,
-        alloc: Global,
-        provider: &Provider<B, G>,
-        now: u64,
-    ) -> Result<Collection, AllocError>
-        ensures told { IfOk result (λ given. Gathers provider.now now self.old self.new
-            given.batches.items given.refused.items) }
-        ensures err { OnErr result (self.new ≡ self.old) }
-    {
-        let mut given = collect_all(rt, alloc, provider, &mut self.seat, now)?;
-        let shown = self.shown.as_slice();
-        given.batches.retain(|batch| is_told(shown, batch));
-        show(&mut self.shown, &given.batches);
-        Ok(given)
-    }
-
     /// Collects each instrument once. The batches that are handed on, and what was refused.
     pub(crate) fn collect<R: Wait, B: Book, G: Gate>(
         &mut self,
@@ -57,17 +38,22 @@ impl Showing {
     ) -> (Vec<Batch>, Option<Uncollected>)
         ensures { CollectsTold provider.now now self.old self.new result.0.items result.1 }
     {
-        match self.gather(rt, alloc, provider, now) {
-            Err(_) => (Vec::new(alloc), Some(Uncollected::All)),
-            Ok(Collection { batches, refused }) => (batches, uncollected(refused)),
-        }
+        let Ok(mut given) = collect_all(rt, alloc, provider, &mut self.seat, now) else {
+            return (Vec::new(alloc), Some(Uncollected::All));
+        };
+        let shown = self.shown.as_slice();
+        given.batches.retain(|batch| is_told(shown, batch));
+        let Collection { batches, refused } = given;
+        (batches, uncollected(refused))
     }
 
-    /// Notes whether a batch that was handed on was refused.
-    pub(crate) fn settle(&mut self, is_refused: bool)
-        ensures { Settles is_refused self.old self.new }
+    /// Notes that these batches were handed on, and whether one was refused.
+    pub(crate) fn note(&mut self, batches: &[Batch], is_refused: bool)
+        ensures { NotesHanded is_refused batches.now self.old self.new }
     {
-        settle(&mut self.shown, is_refused);
+        for batch in batches {
+            note_one(&mut self.shown, batch, is_refused);
+        }
     }
 
     /// Goes on with the seat of the next run.

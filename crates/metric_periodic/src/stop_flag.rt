@@ -39,9 +39,9 @@ impl StopFlag {
     }
 
     /// Makes the next tick of each ticker of this flag come at once and not after its period, so that its reader
-    /// collects and exports now, tries again what its exporter keeps, and flushes it (Metrics SDK, force flush). It stops
-    /// none. A ticker that does not wait just now leaves out its next wait; several calls before one tick are answered by
-    /// that tick.
+    /// collects and exports now, tries again what its exporter keeps, and flushes it (Metrics SDK, force flush). It
+    /// stops none. A ticker that does not wait just now leaves out its next wait; several calls before one tick are
+    /// answered by that tick.
     pub fn wake<R: Wait>(&self, rt: &R) {
         let mut asked = self.asked.lock(rt);
         asked.ticks = asked.ticks.wrapping_add(1);

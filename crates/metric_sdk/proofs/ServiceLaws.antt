@@ -37,29 +37,24 @@ ok_or_none P Q R (Err fault) by told = absurd told
 
 -- the next run, by what the outlets, the provider and the beginning say
 pub rolled_over : {O : Type 0} (by : outlets.Ghosts O) (keeps : Bool) (old : ServiceValue O) (seats : List RecorderValue) (now : ℕ)
-    (told : List ReaderEnd) (is_counted : Bool) (ended : O) (provider : ProviderValue) (given : List RecorderValue)
+    (told : List ReaderEnd) (is_counted are_seated : Bool) (ended : O) (provider : ProviderValue) (given : List RecorderValue)
     (collectors : List CollectorValue) (totals : Totals) (next : ServiceValue O) (recorders : List RecorderValue) (all : Totals)
     → by.ends old.provider now old.outlets ended told → true ≡ list_all is_collected told → IsTotal keeps old.provider seats totals
     → (next_count old.runs == old.provider.run.number) ≡ false
     → provider ≡ provider_of old.provider.plan (run_of old.provider.plan (next_count old.runs) now)
     → given ≡ new_recorders keeps (run_of old.provider.plan (next_count old.runs) now) old.provider.plan
     → collectors ≡ new_collectors (run_of old.provider.plan (next_count old.runs) now) old.provider.plan
-    → Begins by ended old.runs provider collectors totals is_counted next → recorders ≡ given → all ≡ totals
-    → RollsOver by keeps old seats now told is_counted next recorders all
-rolled_over by keeps old seats now told is_counted ended provider given collectors totals next recorders all readers collected ends other
-    is_next are_given are_new begins are_recorders are_totals = record {
+    → Begins by ended old.runs provider collectors totals is_counted are_seated next → recorders ≡ given → all ≡ totals
+    → RollsOver by keeps old seats now told is_counted are_seated next recorders all
+rolled_over by keeps old seats now told is_counted are_seated ended provider given collectors totals next recorders all readers collected ends
+    other is_next are_given are_new begins are_recorders are_totals = record {
       ended = ended;
       readers = readers;
       collected = sym collected;
-      counted = rw are_totals begins.counted;
       totals_are = rw are_totals ends;
       other_run = other;
-      provider = begins.provider_is ∙ is_next;
       recorders_new = are_recorders ∙ are_given;
-      left = begins.left;
-      are_there = begins.are_there;
-      outlets = rw are_new at begins.outlets;
-      runs = begins.runs_are;
+      begins = rw are_totals (rw (is_next, are_new) at begins);
     }
 
 -- the end of a service, in the same way

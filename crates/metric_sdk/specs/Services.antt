@@ -1,6 +1,6 @@
 -- A service, and how its runs end.
-use Rattle.std.specs.Prelude.{◌≡◌, ◌⊎◌, ◌==◌, ℕ, Bool, true, false, List, [], ◌∷◌, ◌++◌, Option, Some, None}
-use Rattle.std.specs.Prelude.{slice_get}
+use Rattle.std.specs.Prelude.{◌≡◌, ◌⊎◌, ◌==◌, ℕ, Bool, true, false, List, [], ◌∷◌, ◌++◌}
+use Rattle.std.specs.Prelude.{Option, Some, None, slice_get}
 use Rattle.std.specs.List.{list_all}
 use Rattle.metric_io.specs.Counts.{next_count}
 use Rattle.metric_handles.specs.Seats.{others_of}
@@ -57,8 +57,8 @@ IsToldBy (Some place) old exporter milliseconds new =
 abbrev pub IsBackIn : List CollectorValue → CollectorValue → List CollectorValue → Type 0
 IsBackIn others seat all = (all ≡ others ++ seat ∷ []) ⊎ (all ≡ others)
 
--- Why it does not: there is no such reader, else the exporter does not take its batches, else memory
--- ran out. Then its seat is put back.
+-- Why it does not: there is no such reader, else the exporter does not take its batches, else
+-- memory ran out. Then its seat is put back.
 abbrev pub IsUntoldBy : {O : Type 0} → (ℕ → ℕ → Bool) → Option ℕ → BuilderValue O
     → BuilderValue O → TellFault → Type 0
 IsUntoldBy takes None old new tell.UnknownReader = new ≡ old
@@ -81,29 +81,35 @@ abbrev pub AreCounted : (List Total → Type 0) → Totals → Bool → Type 0
 AreCounted counts totals true = counts totals.instruments.items
 AreCounted counts totals false = counts totals.instruments.items → ⊥
 
--- # roll-over of a service (profile) [RollsOver, GoesOn, IsUnended]
+-- What a run that ended goes over into: the outlets count as told, and begin the next run with the
+-- seats of its readers, of which some may be left; the provider is the next run's.
+pub record Begins {O : Type 0} (by : outlets.Ghosts O) (ended : O) (runs : ℕ)
+    (provider : ProviderValue) (seats : List CollectorValue) (totals : Totals)
+    (is_counted are_seated : Bool) (next : ServiceValue O) : Type 0 where
+  pub counted : AreCounted (by.counts ended) totals is_counted
+  pub left : List CollectorValue
+  pub outlets : by.begins ended next.outlets seats left are_seated
+  pub runs_are : next.runs ≡ next_count runs
+  pub provider_is : next.provider ≡ provider
+
+-- # roll-over of a service (profile) [RollsOver, Begins, GoesOn, IsUnended]
 -- Each outlet made its last turn, in which no instrument was refused. The totals are those of the
 -- run that ended; the next run has the same plan, the next number, new seats of all recorders, and
 -- for each outlet the new seat of its reader, and starts at the moment of the last turns.
 pub record RollsOver {O : Type 0} (by : outlets.Ghosts O) (keeps : Bool) (old : ServiceValue O)
-    (seats : List RecorderValue) (now : ℕ) (told : List ReaderEnd) (is_counted : Bool)
+    (seats : List RecorderValue) (now : ℕ) (told : List ReaderEnd) (is_counted are_seated : Bool)
     (next : ServiceValue O) (recorders : List RecorderValue) (totals : Totals) : Type 0 where
   pub ended : O
   pub readers : by.ends old.provider now old.outlets ended told
   pub collected : list_all is_collected told ≡ true
-  pub counted : AreCounted (by.counts ended) totals is_counted
   pub totals_are : IsTotal keeps old.provider seats totals
   pub other_run : (next_count old.runs == old.provider.run.number) ≡ false
-  pub provider : next.provider
-      ≡ provider_of old.provider.plan (run_of old.provider.plan (next_count old.runs) now)
   pub recorders_new : recorders
       ≡ new_recorders keeps (run_of old.provider.plan (next_count old.runs) now) old.provider.plan
-  pub left : List CollectorValue
-  pub are_there : Bool
-  pub outlets : by.begins ended next.outlets
+  pub begins : Begins by ended old.runs
+      (provider_of old.provider.plan (run_of old.provider.plan (next_count old.runs) now))
       (new_collectors (run_of old.provider.plan (next_count old.runs) now) old.provider.plan)
-      left are_there
-  pub runs : next.runs ≡ next_count old.runs
+      totals is_counted are_seated next
 
 -- # end of a service (SDK, shutdown) [EndsService, GoesOn, IsUnended]
 -- The same, and then the provider is finished, and the plan handed out.
@@ -116,8 +122,8 @@ pub record EndsService {O : Type 0} (by : outlets.Ghosts O) (keeps : Bool) (old 
   pub totals_are : IsTotal keeps old.provider seats totals
   pub plan_is : plan ≡ old.provider.plan
 
--- Why a run goes on, by whether each reader has collected of each instrument, and by what refuses to
--- end it: memory ran out before anything was done, a reader has not, else the provider refused it.
+-- Why a run goes on, by whether each reader has collected of each instrument, and by what refuses
+-- to end it: memory ran out before anything was done, a reader has not, else the provider refused.
 abbrev pub IsUnended : Bool → (UnendedFault → Type 0) → UnendedFault → Type 0
 IsUnended collected refuses unended.Memory = Unit {0}
 IsUnended collected refuses unended.Uncollected = collected ≡ false
@@ -156,17 +162,3 @@ pub record GoesOn {O : Type 0} (by : outlets.Ghosts O) (refuses : UnendedFault �
   pub recorders_are : recorders ≡ seats
   pub outlets : AreAsked by old.provider now old.outlets service.outlets told why
   pub cause : IsUnended (list_all is_collected told) refuses why
-
--- ---- what a run that ended goes over into
-
--- The outlets count as told and begin the next run with the seats of its readers; the provider, the
--- seats of its recorders and the totals are handed on.
-pub record Begins {O : Type 0} (by : outlets.Ghosts O) (ended : O) (runs : ℕ)
-    (provider : ProviderValue) (seats : List CollectorValue) (totals : Totals) (is_counted : Bool)
-    (next : ServiceValue O) : Type 0 where
-  pub counted : AreCounted (by.counts ended) totals is_counted
-  pub left : List CollectorValue
-  pub are_there : Bool
-  pub outlets : by.begins ended next.outlets seats left are_there
-  pub runs_are : next.runs ≡ next_count runs
-  pub provider_is : next.provider ≡ provider

@@ -1,5 +1,5 @@
 //! What is left of a service whose run did not end cleanly.
-use crate::service::{Service, TellFault, Untold};
+use crate::service::{Service, TellFault, TellLeft, Untold};
 use metric_export::ExportFault;
 use metric_history::Book;
 use metric_periodic::ReaderEnd;
@@ -65,6 +65,9 @@ pub struct Left<T, O, B: Book, G: Gate> {
     /// Whether the last batches of each reader count all recordings of the totals, where the run ended. Else recordings
     /// were made after its last collection, by a seat that was not at rest.
     pub is_counted: bool,
+    /// Whether each outlet has the seat of its reader in the next run, where one began. Else it keeps its old one,
+    /// whose collections are refused.
+    pub are_seated: bool,
 }
 
 impl<T: Drop, O: Drop, B: Book, G: Gate> fmt::Display for Left<T, O, B, G> {
@@ -75,6 +78,9 @@ impl<T: Drop, O: Drop, B: Book, G: Gate> fmt::Display for Left<T, O, B, G> {
         }
         if !self.is_counted {
             f.write_str("; recordings after the last collection")?;
+        }
+        if !self.are_seated {
+            f.write_str("; a reader has no seat in the next run")?;
         }
         for end in &self.ends {
             if !end.is_clean() {
@@ -116,12 +122,31 @@ impl fmt::Display for TellFault {
     }
 }
 
-impl fmt::Display for Untold {
+impl<E: Drop, O: Drop, B: Book, G: Gate> fmt::Display for TellLeft<E, O, B, G> {
     fn fmt<W: fmt::Write>(&self, f: &mut fmt::Formatter<W>) -> fmt::Result {
-        write!(
-            f,
-            "reader {} has no exporter, and is not ignored",
-            self.reader
-        )
+        write!(f, "{}", self.fault)
     }
 }
+
+impl<E: Drop, O: Drop, B: Book, G: Gate> fmt::Debug for TellLeft<E, O, B, G> {
+    fn fmt<W: fmt::Write>(&self, f: &mut fmt::Formatter<W>) -> fmt::Result {
+        write!(f, "{self}")
+    }
+}
+
+impl<E: Drop, O: Drop, B: Book, G: Gate> std::error::Error for TellLeft<E, O, B, G> {}
+
+impl<O: Drop, B: Book, G: Gate> fmt::Display for Untold<O, B, G> {
+    fn fmt<W: fmt::Write>(&self, f: &mut fmt::Formatter<W>) -> fmt::Result {
+        let reader = self.reader;
+        write!(f, "reader {reader} has no exporter, and is not ignored")
+    }
+}
+
+impl<O: Drop, B: Book, G: Gate> fmt::Debug for Untold<O, B, G> {
+    fn fmt<W: fmt::Write>(&self, f: &mut fmt::Formatter<W>) -> fmt::Result {
+        write!(f, "{self}")
+    }
+}
+
+impl<O: Drop, B: Book, G: Gate> std::error::Error for Untold<O, B, G> {}

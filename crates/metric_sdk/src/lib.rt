@@ -96,36 +96,36 @@
 //! read its [`RunningCounts`], and `StopFlag::wake` makes it export now.
 //!
 //! A [`TextExporter`] writes each batch with an [`Encoding`]: [`Plain`] is its text, [`OtlpLines`] the lines of a file
-//! that the OpenTelemetry Collector reads, and [`OtlpBytes`] what an OTLP receiver takes. The latter two are made for one
-//! reader ([`Served`]), or not at all ([`OutletFault`]), and add the attributes of a [`Resource`] (or return a
+//! that the OpenTelemetry Collector reads, and [`OtlpBytes`] what an OTLP receiver takes. The latter two are made for
+//! one reader ([`Served`]), or not at all ([`OutletFault`]), and add the attributes of a [`Resource`] (or return a
 //! [`ResourceFault`]). `TextExporter::of` and `ReopeningExporter::of` take any encoding.
 //!
 //! An export can fail with an [`ExportFault`]. A [`Queued`] keeps what was refused and retries it before the next
 //! batch, so that the window of a delta reader is not lost; other threads read the [`QueueCounts`] of a [`ToldQueue`].
 //! A [`ReopeningExporter`] opens its sink anew.
 //!
-//! An [`Outlet`] is a reader's seat and one exporter over all runs (or an [`OutletLeft`]); a service has one for each reader ([End](#end)). In it,
-//! and in [`collect_each`], a [`RefusedInstrument`] of a [`Collection`] hides no other. [`export_each`] exports a list and
-//! says what was [`Handed`] on; [`has_points`] says which batches need not be.
+//! An [`Outlet`] is a reader's seat and one exporter over all runs (or an [`OutletLeft`]); a service has one for each
+//! reader ([End](#end)). In it, and in [`collect_each`], a [`RefusedInstrument`] of a [`Collection`] hides no other.
+//! [`export_each`] exports a list and says what was [`Handed`] on; [`has_points`] says which batches need not be.
 //!
-//! An exporter of your own refuses a batch of another plan with [`own_plan`], and with [`own_batch`] one of a reader whose
-//! batches it does not take. A batch has the [`StreamPoints`] of each
-//! [`Stream`], and a [`Point`] the [`PointValue`] of one series, whose [`attributes`] the plan knows. To collect by
-//! hand, a [`Collector`] collects the [`Batch`] of one instrument or of all, up to an [`AllFault`]; [`write_batch`]
-//! writes a batch as text, and [`write_encoded`] as bytes.
+//! An exporter of your own refuses a batch of another plan with [`own_plan`], and with [`own_batch`] one of a reader
+//! whose batches it does not take. A batch has the [`StreamPoints`] of each [`Stream`], and a [`Point`] the
+//! [`PointValue`] of one series, whose [`attributes`] the plan knows. To collect by hand, a [`Collector`] collects the
+//! [`Batch`] of one instrument or of all, up to an [`AllFault`]; [`write_batch`] writes a batch as text, and
+//! [`write_encoded`] as bytes.
 //!
 //! For Prometheus, an [`Exposition`] has the lines of a page in a [`Dialect`], and a [`PageExporter`] hands the whole
 //! page of one reader to [`Pages`] after each collection, such as a file that node_exporter reads. Two attributes of a
-//! resource with one label are a [`TargetFault`]. Before anything is recorded, [`expose`] says whether a server would hold each
-//! sample of a reader's pages, and [`expose_to_otlp`] whether each boundary leaves as it is, or the first
+//! resource with one label are a [`TargetFault`]. Before anything is recorded, [`expose`] says whether a server would
+//! hold each sample of a reader's pages, and [`expose_to_otlp`] whether each boundary leaves as it is, or the first
 //! [`ExposureFault`].
 //!
 //! # Live long
 //!
 //! Budgets run out. [`headrooms`] says how often each instrument may be recorded: its [`Headroom`].
 //! `Provider::roll_over` ends a run and starts the next one of the same plan, with new seats and full budgets, or hands
-//! everything back with a [`RollFault`]. [`Service::roll_over`] does so with the readers and their exporters, and returns
-//! the [`NextRun`], or what is [`Left`].
+//! everything back with a [`RollFault`]. [`Service::roll_over`] does so with the readers and their exporters, and
+//! returns the [`NextRun`], or what is [`Left`].
 //!
 //! For what no recorder's budget foresees, an instrument may have a spare. During the run, `Provider::grant` gives some
 //! of it to any recorder, and a recorder whose budget is spent ([`Refusal::Budget`]) asks with `Recorder::ask`, until
@@ -138,17 +138,17 @@
 //!
 //! A [`Service`] is a provider with the way out of each reader. [`Service::builder`] takes what `open` gave;
 //! `ServiceBuilder::tell` pairs a reader with its exporter and a period, or hands both back ([`TellLeft`], with a
-//! [`TellFault`]), and `build` names the first reader that is [`Untold`] and not ignored. So no reader is forgotten, and no
-//! exporter gets the batches of two. [`live`] runs workers, each a call of your [`Work`], in threads beside the
+//! [`TellFault`]), and `build` names the first reader that is [`Untold`] and not ignored. So no reader is forgotten,
+//! and no exporter gets the batches of two. [`live`] runs workers, each a call of your [`Work`], in threads beside the
 //! [`Outlets`], of which [`make_turns`] makes the turns. `Service::force_flush` lets all export now.
 //!
-//! [`Service::end`] lets each outlet collect a last time, exports, flushes, and finishes the provider: what was [`Ended`].
-//! What is [`Left`] else has each cause, how each reader ended ([`ReaderEnd`], with what was [`Uncollected`] and
-//! [`Unexported`]), and the service that goes on where it is [`Unended`], by an [`UnendedFault`]. `Provider::finish` alone
-//! returns the [`Totals`], a [`Total`] for each instrument, exactly what the recorders were told, or a [`FinishFault`].
-//! `Provider::finish_keeping` also returns the plan, and `Provider::finish_partly` ends a run in which a recorder's
-//! seat was lost, with what is [`Partly`] known. Calls that hand things back return them in a tuple with the fault; `?`
-//! makes a [`ServiceFault`] of each.
+//! [`Service::end`] lets each outlet collect a last time, exports, flushes, and finishes the provider: what was
+//! [`Ended`]. What is [`Left`] else has each cause, how each reader ended ([`ReaderEnd`], with what was [`Uncollected`]
+//! and [`Unexported`]), and the service that goes on where it is [`Unended`], by an [`UnendedFault`].
+//! `Provider::finish` alone returns the [`Totals`], a [`Total`] for each instrument, exactly what the recorders were
+//! told, or a [`FinishFault`]. `Provider::finish_keeping` also returns the plan, and `Provider::finish_partly` ends a
+//! run in which a recorder's seat was lost, with what is [`Partly`] known. Calls that hand things back return them in a
+//! tuple with the fault; `?` makes a [`ServiceFault`] of each. What a service hands back is an error as it is.
 //!
 //! # Files that are wrong
 //!
@@ -179,7 +179,8 @@
 //! A provider is generic over the book that keeps the recordings of an instrument, and over a [`Gate`], with which a
 //! test holds threads inside a lock. Services use [`Marked`] and [`NoGate`]. [`batches_are_bounded`] says of each
 //! batch, over every book, what [`tables_are_bounded`] says of running tables; [`windows_meet`] says that by number and
-//! by time nothing is between two of them, or in both.
+//! by time nothing is between two of them, or in both. [`outlets_tell_once`] says so of a whole run of an [`Outlet`]: each
+//! recording of a delta reader is in one batch, and each batch with points is handed on.
 //!
 //! A service that has to prove its numbers to somebody, for billing or after an incident, starts with [`Audited`]. It
 //! keeps each recording beside the tables, 32 bytes in the list of its instrument and 24 in the seat of its recorder:
@@ -382,6 +383,7 @@ pub use metric_periodic::Uncollected;
 pub use metric_periodic::Unexported;
 pub use metric_periodic::collect_each;
 pub use metric_periodic::make_turns;
+pub use metric_periodic::outlets_tell_once;
 pub use metric_plan::CheckFault;
 pub use metric_plan::Plan;
 pub use metric_provider::AllFault;

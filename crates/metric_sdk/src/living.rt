@@ -19,9 +19,9 @@ pub trait Work<W, P>: Sync {
     fn work<R: Wait + Clock>(&self, rt: &R, provider: &P, worker: &mut W);
 }
 
-/// A run of a service: each worker works in a thread of its own, at most 64 at once, while the outlets make their turns in
-/// another. When all workers have ended, the flag is set, and the service is handed back with the workers; its run has not
-/// ended yet, so that [`Service::roll_over`] or [`Service::end`] comes next. The flag was made for this run: by
+/// A run of a service: each worker works in a thread of its own, at most 64 at once, while the outlets make their turns
+/// in another. When all workers have ended, the flag is set, and the service is handed back with the workers; its run
+/// has not ended yet, so that [`Service::roll_over`] or [`Service::end`] comes next. The flag was made for this run: by
 /// [`StopFlag::wake`] all outlets make a turn at once, and who sets it ends the turns.
 ///
 /// Where no thread can be made, the turns and the workers come one after the other, and the turns never end.

@@ -22,8 +22,9 @@ use std::sync::Wait;
 /// A provider of a catalogue and a config that are given as TOML, with a seat for each recorder and each reader, in the
 /// order of the two: both texts are read, a certificate is made and checked, and the provider starts at a time in
 /// nanoseconds (as [`now`](crate::now) gives it), as the next run of a process. By its number, its start and its plan
-/// seats tell their provider from all others; all providers of a process are opened with one [`Runs`]. Each run of a core of its plan is exact:
-/// what [`certified_runs_are_exact`](crate::certified_runs_are_exact) says, with no premise about the texts.
+/// seats tell their provider from all others; all providers of a process are opened with one [`Runs`]. Each run of a
+/// core of its plan is exact: what [`certified_runs_are_exact`](crate::certified_runs_are_exact) says, with no premise
+/// about the texts.
 ///
 /// # Errors
 ///

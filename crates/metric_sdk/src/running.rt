@@ -6,7 +6,8 @@ ghost use Rattle.metric_periodic.specs.Outlets.{is_clean, is_collected, is_expor
 ghost use Rattle.metric_periodic.specs.declared.ended.ReaderEnd.{ReaderEnd as reader_end};
 ghost use Rattle.metric_provider.specs.Rolling.{RefusesRoll};
 ghost use Rattle.metric_provider.specs.Totals.{RefusesFinish, seated};
-ghost use Rattle.metric_sdk.specs.Services.{AreCounted, Begins, EndsService, GoesOn, RefusesEnd, RefusesRollOver, RollsOver, service_of};
+ghost use Rattle.metric_sdk.specs.Services.{AreCounted, Begins, EndsService, GoesOn, RefusesEnd};
+ghost use Rattle.metric_sdk.specs.Services.{RefusesRollOver, RollsOver, service_of};
 
 use crate::leftover::{Ended, Left, NextRun, Unended, UnendedFault};
 use crate::runs::Runs;
@@ -18,10 +19,10 @@ use std::alloc::{AllocError, Global};
 use std::sync::Wait;
 
 impl<O: Outlets, B: Book, G: Gate> Service<O, B, G> {
-    /// Ends the run and begins the next one, by the seats of all recorders: each outlet makes its last turn at a moment,
-    /// in which a refused instrument hides no other; then the provider rolls over, and the next run starts at that
-    /// moment, with the next number, new seats of all recorders, and for each outlet the new seat of its reader. What an
-    /// exporter keeps stays with it.
+    /// Ends the run and begins the next one, by the seats of all recorders: each outlet makes its last turn at a
+    /// moment, in which a refused instrument hides no other; then the provider rolls over, and the next run starts at
+    /// that moment, with the next number, new seats of all recorders, and for each outlet the new seat of its reader.
+    /// What an exporter keeps stays with it.
     ///
     /// # Errors
     ///
@@ -37,19 +38,21 @@ impl<O: Outlets, B: Book, G: Gate> Service<O, B, G> {
         now: u64,
     ) -> Result<NextRun<O, B, G>, Left<NextRun<O, B, G>, O, B, G>>
         ensures rolled { IfOk result (λ next. (told : List reader_end)
-            × (RollsOver O.Outlets B.KEEPS_ENTRIES self recorders.items now told true
+            × (RollsOver O.Outlets B.KEEPS_ENTRIES self recorders.items now told true true
             next.service next.recorders.items next.totals
             × (list_all is_exported told ≡ true))) }
         ensures left { IfErr result (λ left. MatchResult left.done
             (λ next. RollsOver O.Outlets B.KEEPS_ENTRIES self recorders.items now
-            left.ends.items left.is_counted next.service next.recorders.items next.totals)
+            left.ends.items left.is_counted left.are_seated next.service
+            next.recorders.items next.totals)
             (λ unended. let p = self.provider in
             let refuses = RefusesRollOver (RefusesRoll B.stands (length p.plan.facts.instruments)
             (next_count self.runs == p.run.number) now (seated p recorders.items)) in
             GoesOn O.Outlets refuses self recorders.items now left.ends.items
             unended.service unended.recorders.items unended.fault)) }
         ensures some_left { IfErr result (λ left. OnOk left.done
-            ((left.is_counted && list_all is_exported left.ends.items) ≡ false)) }
+            (((left.is_counted && left.are_seated) && list_all is_exported left.ends.items)
+            ≡ false)) }
     {
         let Service {
             provider,
@@ -204,6 +207,7 @@ fn left_by<T, O, B: Book, G: Gate>(
         }),
         ends,
         is_counted: true,
+        are_seated: true,
     }
 }
 
@@ -215,17 +219,18 @@ fn next_run<O: Outlets, B: Book, G: Gate>(
     ends: Vec<ReaderEnd>,
 ) -> Result<NextRun<O, B, G>, Left<NextRun<O, B, G>, O, B, G>>
     ensures next { IfOk result (λ next. Begins O.Outlets outlets runs rolled.provider
-        rolled.collectors.items rolled.totals true next.service
+        rolled.collectors.items rolled.totals true true next.service
         × ((next.recorders.items ≡ rolled.recorders.items) × (next.totals ≡ rolled.totals))) }
     ensures exported { OnOk result (list_all is_exported ends.items ≡ true) }
     ensures left { IfErr result (λ left. MatchResult left.done
         (λ next. Begins O.Outlets outlets runs rolled.provider
-        rolled.collectors.items rolled.totals left.is_counted next.service
+        rolled.collectors.items rolled.totals left.is_counted left.are_seated next.service
         × ((next.recorders.items ≡ rolled.recorders.items) × (next.totals ≡ rolled.totals)))
         (λ _. ⊥)) }
     ensures ends { IfErr result (λ left. left.ends.items ≡ ends.items) }
     ensures some_left { IfErr result (λ left.
-        (left.is_counted && list_all is_exported left.ends.items) ≡ false) }
+        ((left.is_counted && left.are_seated) && list_all is_exported left.ends.items)
+        ≡ false) }
 {
     let Rolled {
         provider,
@@ -235,20 +240,21 @@ fn next_run<O: Outlets, B: Book, G: Gate>(
     } = rolled;
     let is_counted = outlets.are_counted(&totals.instruments);
     let (mut outlets, mut runs, mut seats) = (outlets, runs, collectors);
-    let _each = outlets.begin_each(&mut seats);
+    let are_seated = outlets.begin_each(&mut seats);
     let _given = runs.next();
     let next = NextRun {
         service: service_of(provider, outlets, runs),
         recorders,
         totals,
     };
-    if is_counted && are_exported(&ends) {
+    if is_counted && are_seated && are_exported(&ends) {
         Ok(next)
     } else {
         Err(Left {
             done: Ok(next),
             ends,
             is_counted,
+            are_seated,
         })
     }
 }
@@ -290,6 +296,7 @@ fn ended<O: Outlets, B: Book, G: Gate>(
             done: Ok(ended),
             ends,
             is_counted,
+            are_seated: true,
         })
     }
 }

@@ -27,11 +27,11 @@ fn nanoseconds_at(time: SystemTime) -> u64
     }
 }
 
-/// Numbers for runs. Seats of two providers of one plan that started at one moment are told apart by their number alone,
-/// so a process makes one `Runs`, with which [`open`](crate::open) opens each provider, and takes the number of each
-/// roll-over from it: 1, 2, 3 and so on. That they rise by one is proved; that a process has but one `Runs` is up to the
-/// process, and where it has two, seats of another plan or another start are strangers still. 2^64 - 1 is given again
-/// after it was given; no process gets there, and [`Provider::roll_over`](crate::Provider::roll_over) refuses the
+/// Numbers for runs. Seats of two providers of one plan that started at one moment are told apart by their number
+/// alone, so a process makes one `Runs`, with which [`open`](crate::open) opens each provider, and takes the number of
+/// each roll-over from it: 1, 2, 3 and so on. That they rise by one is proved; that a process has but one `Runs` is up
+/// to the process, and where it has two, seats of another plan or another start are strangers still. 2^64 - 1 is given
+/// again after it was given; no process gets there, and [`Provider::roll_over`](crate::Provider::roll_over) refuses the
 /// number of the run that is going.
 ///
 /// Contracts see the number that was given last, 0 before the first.

@@ -1,6 +1,7 @@
 //! A service: a provider, and the way out of each of its readers.
-ghost use Rattle.std.specs.Prelude.{◌≡◌, [], IfErr, IfOk, IfSome, OnOk, Some, slice_get, true};
-ghost use Rattle.metric_handles.specs.Seats.{is_reader_named, others_of, reader_place};
+ghost use Rattle.std.specs.Prelude.{◌≡◌, ◌<◌, ◌^◌, ℕ, [], IfErr, IfOk, MatchOption, OnOk, Some};
+ghost use Rattle.std.specs.Prelude.{false, is_some, slice_get, true};
+ghost use Rattle.metric_handles.specs.Seats.{is_reader_named, others_of, reader_place, taken_of};
 ghost use Rattle.metric_seat.specs.Seats.{CollectorValue};
 ghost use Rattle.metric_plan.specs.Plans.{print_of};
 ghost use Rattle.metric_sdk.specs.Services.{IsBackIn, IsToldBy, IsUntoldBy, service_of};
@@ -16,8 +17,8 @@ use std::alloc::Global;
 use std::marker::Model;
 use std::sync::Wait;
 
-/// A service: a provider, the way out of each of its readers, and the numbers of its runs. The seats of its recorders are
-/// the workers'.
+/// A service: a provider, the way out of each of its readers, and the numbers of its runs. The seats of its recorders
+/// are the workers'.
 ///
 /// A reader stays with the exporter that it was told, over all runs: there is no call that takes an exporter beside it.
 #[derive(Drop)]
@@ -80,11 +81,15 @@ impl<O, B: Book, G: Gate> Service<O, B, G> {
         &self.outlets
     }
 
-    /// A turn of each outlet at a moment: collects, hands on, tries again what exporters keep, and flushes them (Metrics
-    /// SDK, force flush).
+    /// A turn of each outlet at a moment: collects, hands on, tries again what exporters keep, and flushes them
+    /// (Metrics SDK, force flush).
     pub fn force_flush<R: Wait>(&mut self, rt: &R, alloc: Global, now: u64)
     where
         O: Outlets,
+        ensures turn { (next : ℕ) × O.turns self.old.provider now true self.old.outlets
+            self.new.outlets next }
+        ensures rest { self.new
+            ≡ service_of self.old.provider self.new.outlets self.old.runs }
     {
         let _due = self
             .outlets
@@ -186,6 +191,9 @@ impl<O, B: Book, G: Gate> ServiceBuilder<O, B, G> {
 
     /// Ignores the reader of this name: nobody collects what it would export. Whether there was one.
     pub fn ignore(&mut self, reader: &str) -> bool
+        ensures there { let place = reader_place self.old.service.provider.plan reader.now
+            self.old.readers in
+            result ≡ is_some (taken_of self.old.readers place) }
         ensures left { let place = reader_place self.old.service.provider.plan reader.now
             self.old.readers in
             self.new ≡ record self.old { readers = others_of self.old.readers place } }
@@ -195,8 +203,9 @@ impl<O, B: Book, G: Gate> ServiceBuilder<O, B, G> {
 
     /// The number of the reader of this name: by it an exporter is made that takes the batches of one reader alone.
     pub fn reader(&self, name: &str) -> Option<u32>
-        ensures { IfSome result (λ number.
-            is_reader_named self.now.service.provider.plan name.now number ≡ true) }
+        ensures { let is_named = is_reader_named self.now.service.provider.plan name.now in
+            MatchOption result ((number : ℕ) → number < 2 ^ 32 → is_named number ≡ false)
+            (λ number. is_named number ≡ true) }
     {
         let readers = self.plan().config().readers();
         let place = readers.iter().position(|it| it.name.as_str() == name)?;
@@ -214,17 +223,20 @@ impl<O, B: Book, G: Gate> ServiceBuilder<O, B, G> {
     ///
     /// # Errors
     ///
-    /// The number of the first reader that has not, and this again.
-    pub fn build(self) -> Result<Service<O, B, G>, (ServiceBuilder<O, B, G>, Untold)>
+    /// [`Untold`] names the first reader that has not, and hands this back.
+    pub fn build(self) -> Result<Service<O, B, G>, Untold<O, B, G>>
         ensures ok { IfOk result (λ service. (service ≡ self.service) × (self.readers ≡ [])) }
-        ensures err { IfErr result (λ left. (left.0 ≡ self)
+        ensures err { IfErr result (λ left. (left.builder ≡ self)
             × ((seat : CollectorValue) × ((slice_get self.readers 0 ≡ Some seat)
-            × (left.1.reader ≡ seat.number)))) }
+            × (left.reader ≡ seat.number)))) }
     {
         match self.readers.first() {
             Some(seat) => {
                 let reader = seat.number();
-                Err((self, Untold { reader }))
+                Err(Untold {
+                    builder: self,
+                    reader,
+                })
             }
             None => {
                 let ServiceBuilder {
@@ -237,10 +249,12 @@ impl<O, B: Book, G: Gate> ServiceBuilder<O, B, G> {
     }
 }
 
-/// A reader that has been told no exporter, and is not ignored.
-#[derive(Clone, Copy, Debug, PartialEq, Eq, Drop)]
-pub struct Untold {
-    /// Its number.
+/// A service that is being put together, of which a reader has been told no exporter and is not ignored.
+#[derive(Drop)]
+pub struct Untold<O, B: Book, G: Gate> {
+    /// The service, as it was.
+    pub builder: ServiceBuilder<O, B, G>,
+    /// The number of the reader.
     pub reader: u32,
 }
 

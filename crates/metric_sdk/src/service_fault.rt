@@ -1,5 +1,4 @@
 //! One error for the calls of a service.
-use crate::service::{ServiceBuilder, TellFault, TellLeft, Untold};
 use metric_catalogue::Catalogue;
 use metric_check::ClaimFault;
 use metric_contents::Refusal;
@@ -42,12 +41,6 @@ pub enum ServiceFault {
     /// A provider did not roll over.
     #[error("roll over: {0}")]
     Roll(RollFault),
-    /// A reader and an exporter do not go together.
-    #[error("{0}")]
-    Tell(TellFault),
-    /// A reader has been told no exporter, and is not ignored.
-    #[error("{0}")]
-    Untold(Untold),
     /// Out of memory.
     #[error("memory")]
     Memory,
@@ -183,27 +176,5 @@ impl<B: Book, G: Gate> From<(Provider<B, G>, Vec<Recorder>, RollFault)> for Serv
 
     fn from(left: (Provider<B, G>, Vec<Recorder>, RollFault)) -> ServiceFault {
         ServiceFault::Roll(left.2)
-    }
-}
-
-impl<E: Drop, O: Drop, B: Book, G: Gate> From<TellLeft<E, O, B, G>> for ServiceFault {
-    ghost use Rattle.std.specs.Prelude.{◌≡◌};
-    ghost use Rattle.metric_sdk.specs.declared.service_fault.ServiceFault.TheVariants.{Tell};
-
-    ghost from_gives = { λ left fault. fault ≡ Tell left.fault };
-
-    fn from(left: TellLeft<E, O, B, G>) -> ServiceFault {
-        ServiceFault::Tell(left.fault)
-    }
-}
-
-impl<O: Drop, B: Book, G: Gate> From<(ServiceBuilder<O, B, G>, Untold)> for ServiceFault {
-    ghost use Rattle.std.specs.Prelude.{◌≡◌};
-    ghost use Rattle.metric_sdk.specs.declared.service_fault.ServiceFault.TheVariants.{Untold};
-
-    ghost from_gives = { λ left fault. fault ≡ Untold left.1 };
-
-    fn from(left: (ServiceBuilder<O, B, G>, Untold)) -> ServiceFault {
-        ServiceFault::Untold(left.1)
     }
 }

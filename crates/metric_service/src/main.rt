@@ -14,8 +14,8 @@ use json_lines::JsonLines;
 use metric_sdk::{
     AnySeat, Attr, BoundCounter, Counted, Counter, Gauge, Histogram, Marked, MeterProvider,
     NamedText, NoGate, OtlpLines, Outlet, Plan, Recorder, Resource, Runs, Service, ServiceBuilder,
-    ServiceFault, SetupFault, StdSink, StopFlag, TextExporter, Totals, UpDownCounter, Work,
-    counter, diagnose_catalogue, diagnose_config, gauge, histogram, live, now, open_with_lanes,
+    SetupFault, StdSink, StopFlag, TextExporter, Totals, UpDownCounter, Work, counter,
+    diagnose_catalogue, diagnose_config, gauge, histogram, live, now, open_with_lanes,
     up_down_counter,
 };
 use std::alloc::Global;
@@ -141,15 +141,12 @@ fn told(
 ) -> Result<Shopped> {
     let all = service.reader("all").context("no reader \"all\"")?;
     let lines = lines_to(alloc, service.plan(), all, file)?;
-    let service = service.tell(alloc, "all", lines, 10_000);
-    let service = service.map_err(ServiceFault::from)?;
-    let service = service.tell(alloc, "new", own, 60_000);
-    let service = service.map_err(ServiceFault::from)?.build();
-    Ok(service.map_err(ServiceFault::from)?)
+    let service = service.tell(alloc, "all", lines, 10_000)?;
+    Ok(service.tell(alloc, "new", own, 60_000)?.build()?)
 }
 
-// An exporter that adds the lines of a reader to a file. None is made where a boundary would leave as another one, since
-// the protocol has doubles for them.
+// An exporter that adds the lines of a reader to a file. None is made where a boundary would leave as another one,
+// since the protocol has doubles for them.
 fn lines_to(alloc: Global, plan: &Plan, reader: u32, file: File) -> Result<Lines> {
     let resource = Resource::new(alloc, &[Attr::text("service.name", "shop")])?;
     let lines = OtlpLines::new(plan, reader, resource)?;

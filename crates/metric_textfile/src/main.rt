@@ -6,7 +6,7 @@
 use anyhow::{Context, Result, bail};
 use metric_sdk::{
     Attr, Broken, Dialect, MeterProvider, PageExporter, Pages, Plan, Recorder, Resource, Runs,
-    Service, ServiceFault, counter, gauge, histogram, open,
+    Service, counter, gauge, histogram, open,
 };
 use std::alloc::Global;
 use std::env;
@@ -103,9 +103,7 @@ fn run<R: Wait>(rt: &R, alloc: Global, file: TextFile<'_>) -> Result<()> {
     let reader = service.reader("textfile").context("no reader")?;
     // Before anything is recorded: none is made unless a server would hold each sample.
     let page = page_of(alloc, service.plan(), reader, file)?;
-    let service = service.tell(alloc, "textfile", page, 60_000);
-    let service = service.map_err(ServiceFault::from)?.build();
-    let service = service.map_err(ServiceFault::from)?;
+    let service = service.tell(alloc, "textfile", page, 60_000)?.build()?;
     let recorder = recorders.first_mut().context("no recorder")?;
     back_up(rt, service.provider(), recorder)?;
     service.end(rt, alloc, recorders, 1_000)?;

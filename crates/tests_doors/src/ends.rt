@@ -6,7 +6,7 @@ use crate::page::Page;
 use crate::services::{CUMULATIVE, DELTA, HITS, Service, hit_once};
 use metric_sdk::{
     KeepingExporter, Left, Marked, MetricExporter, NextRun, NoGate, Outlet, OutletLeft, Outlets,
-    Plan, Queued, ReaderEnd, Recorder, Runs, Service as Whole, ServiceFault, Tick, collect_each,
+    Plan, Queued, ReaderEnd, Recorder, Runs, Service as Whole, Tick, collect_each,
 };
 use std::alloc::Global;
 use std::process::Abort;
@@ -35,11 +35,8 @@ pub(crate) fn told<'a, R: Abort, E: MetricExporter>(
     let (provider, recorders, readers) = service.into_seats();
     let service = Whole::builder(provider, readers, runs_after(given));
     let service = service.tell(page.alloc, reader, exporter, 1);
-    let service = service.map_err(ServiceFault::from).or_fail(page.rt).build();
-    (
-        service.map_err(ServiceFault::from).or_fail(page.rt),
-        recorders,
-    )
+    let service = service.or_fail(page.rt).build();
+    (service.or_fail(page.rt), recorders)
 }
 
 /// Exports by a plan what an outlet handed back, and writes the answers.
@@ -59,8 +56,8 @@ pub(crate) fn export_left<R: Abort, E: MetricExporter>(
     page.answer(answer)
 }
 
-/// Ends a service at a time, and writes its totals, or what is left. How those outlets ended of which something is left,
-/// with the plan, where it ended.
+/// Ends a service at a time, and writes its totals, or what is left. How those outlets ended of which something is
+/// left, with the plan, where it ended.
 pub(crate) fn end<R: Abort + Wait, O: Outlets>(
     page: &mut Page<'_, R>,
     service: Whole<O, Marked, NoGate>,
@@ -79,6 +76,7 @@ pub(crate) fn end<R: Abort + Wait, O: Outlets>(
         done,
         ends,
         is_counted: _,
+        are_seated: _,
     } = left;
     match done {
         Ok(ended) => {
@@ -101,9 +99,9 @@ enum Step {
 }
 
 // Whether its reader is that of another run, how many runs have a number, how many batches a queue keeps at most, and
-// which calls of the exporter below it fail; what happens, and when the service ends, if it does. Then what is told, and
-// of the queue how many batches went out and how many are kept, and what the exporter took in the end: each recording
-// once.
+// which calls of the exporter below it fail; what happens, and when the service ends, if it does. Then what is told,
+// and of the queue how many batches went out and how many are kept, and what the exporter took in the end: each
+// recording once.
 struct Case {
     is_strange: bool,
     given: u64,
@@ -244,6 +242,7 @@ fn goes_on<'a, R: Abort>(page: &mut Page<'_, R>, left: RollLeft<'a>) -> Life<'a>
         done,
         ends,
         is_counted: _,
+        are_seated: _,
     } = left;
     match done {
         Ok(next) => Life {
@@ -412,7 +411,7 @@ fn tell_outlived<R: Abort + Wait>(page: &mut Page<'_, R>) {
     let second = hit_once(page.rt, page.alloc, 4);
     let third = Service::new(page.rt, page.alloc, HITS, DELTA, 5);
     for mut service in [second, third] {
-        clean = clean && outlet.begin_run(&mut service.readers);
+        clean = clean && outlet.begin_each(&mut service.readers);
         clean = clean && run(page.rt, page.alloc, &service, &mut outlet);
     }
     assert!(page.rt; clean);

@@ -2,14 +2,17 @@
 use crate::asserted::{OrFail, assert_equal};
 use crate::ends::{end, export_left, runs_after};
 use crate::page::Page;
-use crate::services::{Seats, Service};
+use crate::services::{DELTA, HITS, Seats, Service};
 use metric_sdk::{
-    Catalogue, Config, CutSink, Runs, Service as Whole, ServiceFault, SetupFault, TextExporter,
-    make, now, open, open_certified, open_with_lanes,
+    Catalogue, Config, CutSink, KeepingExporter, MeterProvider, QueueCounts, Queued, Recorder,
+    Runs, Service as Whole, SetupFault, StopFlag, TextExporter, ToldQueue, Work, live, make, now,
+    open, open_certified, open_with_lanes,
 };
 use std::alloc::Global;
 use std::process::Abort;
 use std::sync::Wait;
+use std::thread::{self, Threads};
+use std::time::Clock;
 
 // Two counters of two recorders.
 const CATALOGUE: &str = "format = 1
@@ -348,10 +351,9 @@ fn end_both<R: Abort + Wait>(
     let (provider, recorders, readers) = service.into_seats();
     let service = Whole::builder(provider, readers, runs_after(9));
     let service = service.tell(page.alloc, "C", &mut *first, 1);
-    let service = service.map_err(ServiceFault::from).or_fail(page.rt);
+    let service = service.or_fail(page.rt);
     let service = service.tell(page.alloc, "D", &mut *second, 1);
-    let service = service.map_err(ServiceFault::from).or_fail(page.rt).build();
-    let service = service.map_err(ServiceFault::from).or_fail(page.rt);
+    let service = service.or_fail(page.rt).build().or_fail(page.rt);
     if let Some((ends, plan)) = end(page, service, recorders, 200) {
         for end in &ends {
             let exporter = if end.reader == 0 {
@@ -371,4 +373,51 @@ fn a_service_ends_with_its_totals_or_each_cause(rt: HostRuntime) {
         tell_case(&mut page, case);
         page.assert(case.told);
     }
+}
+
+// What a worker waits for: that its reader exports.
+#[derive(Drop)]
+struct Waking<'a> {
+    flag: &'a StopFlag,
+    counts: &'a QueueCounts,
+}
+
+impl Work<Recorder, MeterProvider> for Waking<'_> {
+    // Records, lets all outlets make a turn, and goes on when a batch has gone out.
+    fn work<R: Wait + Clock>(&self, rt: &R, provider: &MeterProvider, worker: &mut Recorder) {
+        let _ = worker.record(rt, provider, 0, &[], 5);
+        self.flag.wake(rt);
+        for _turn in 0..u64::MAX {
+            if self.counts.sent() > 0 {
+                break;
+            }
+            thread::yield_now();
+        }
+    }
+}
+
+// How many batches the reader of a service exports that is to turn every hour, while its worker waits for one.
+fn exported_while_working<R>(rt: &R, alloc: Global) -> u64
+where
+    R: Abort + Threads + Wait + Clock + Sync + AllocGlobal,
+{
+    let (provider, recorders, readers) = Service::new(rt, alloc, HITS, DELTA, 1).into_seats();
+    let (flag, counts) = (StopFlag::new(), QueueCounts::new());
+    let queue = Queued::new(alloc, KeepingExporter::new(alloc), 9);
+    let queue = ToldQueue::new(queue, &counts);
+    let service = Whole::builder(provider, readers, runs_after(1));
+    let service = service.tell(alloc, "d", queue, 3_600_000).or_fail(rt);
+    let work = Waking {
+        flag: &flag,
+        counts: &counts,
+    };
+    let service = service.build().or_fail(rt);
+    let (service, _workers) = live(rt, service, recorders, &flag, &work);
+    service.outlets().1.exported()
+}
+
+#[test]
+fn a_service_exports_while_its_workers_record(rt: HostRuntime) {
+    let exported = exported_while_working(&rt, rt.alloc());
+    assert_equal(&rt, exported, 1);
 }

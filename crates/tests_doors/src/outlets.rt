@@ -9,7 +9,7 @@ use crate::services::{HITS as ONE, Service};
 use metric_sdk::{
     Attr, Batch, Broken, CutSink, Dialect, Encoding, ExportFault, Exposition, KeepingExporter,
     MetricExporter, OtlpBytes, OtlpLines, OutletFault, PageExporter, Pages, Plan, Queued, Resource,
-    ResourceFault, Runs, Service as Whole, ServiceFault, TextExporter, counter, histogram, open,
+    ResourceFault, Runs, Service as Whole, TextExporter, counter, histogram, open,
 };
 use std::alloc::Global;
 use std::process::Abort;
@@ -274,11 +274,11 @@ fn an_output_takes_the_batches_of_its_reader(rt: HostRuntime) {
     };
     page.say(left.fault);
     let service = left.builder.tell(alloc, "all", left.exporter, 1);
-    let service = service.map_err(ServiceFault::from).or_fail(&rt);
-    let Err((mut service, untold)) = service.build() else {
+    let Err(untold) = service.or_fail(&rt).build() else {
         panic!(rt; "built");
     };
-    page.say(untold);
+    page.say(&untold);
+    let mut service = untold.builder;
     assert!(rt; service.ignore("new") && !service.ignore("new"));
     let again = service.tell(alloc, "all", KeepingExporter::new(alloc), 1);
     page.answer(again.map(|_| ()).map_err(|left| left.fault));
@@ -298,8 +298,8 @@ fn lines_are_of_their_reader(rt: HostRuntime) {
     assert_equal(&rt, told, Err(ExportFault::OtherReader));
 }
 
-// The pages of a reader over three runs, of which the last is quiet, each after a flush and after the roll-over; and how
-// often the other one's batches went out, are kept, and how many points they had: one for each recording.
+// The pages of a reader over three runs, of which the last is quiet, each after a flush and after the roll-over; and
+// how often the other one's batches went out, are kept, and how many points they had: one for each recording.
 const RUNS: &str = "5, 5; 7, 7; none, none; (3, 0)
 [(10, 1), (30, 1), (50, 0)]
 ";
@@ -313,10 +313,9 @@ fn tell_runs<R: Abort + Wait>(page: &mut Page<'_, R>, queue: &mut Queued<Failing
     let service = Whole::builder(provider, readers, runs_after(1));
     let made = pages_of(page.rt, page.alloc, service.plan(), 1).or_fail(page.rt);
     let service = service.tell(page.alloc, "new", &mut *queue, 1);
-    let service = service.map_err(ServiceFault::from).or_fail(page.rt);
+    let service = service.or_fail(page.rt);
     let service = service.tell(page.alloc, "all", made, 1);
-    let service = service.map_err(ServiceFault::from).or_fail(page.rt).build();
-    let mut service = service.map_err(ServiceFault::from).or_fail(page.rt);
+    let mut service = service.or_fail(page.rt).build().or_fail(page.rt);
     for (value, now) in [(Some(5), 10), (Some(7), 30), (None, 50)] {
         if let (Some(value), Some(recorder)) = (value, recorders.first_mut()) {
             let answer = recorder.record(page.rt, service.provider(), 0, &[], value);

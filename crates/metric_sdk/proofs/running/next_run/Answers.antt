@@ -6,9 +6,8 @@ pub returns-then-are_exported-clause-next : goal.returns-then-are_exported-claus
 returns-then-are_exported-clause-next g c = (
   rw c.service_of.ensures (record {
     counted = rw c.deref.ensures.value at (c.are_counted-is_counted.ensures.counted c.if-is_counted.true);
-    left = c.begin_each-each.new.seats.items;
-    are_there = c.begin_each-each.result;
-    outlets = c.begin_each-each.ensures;
+    left = c.begin_each-are_seated.new.seats.items;
+    outlets = rw c.if-are_seated.true at c.begin_each-are_seated.ensures;
     runs_are = c.next-given.ensures.given ∙ c.next-given.ensures.number;
     provider_is = refl;
   }),

@@ -4,7 +4,7 @@ use Rattle.std.specs.List.{slice_get}
 use Rattle.std.specs.Option.{option_map}
 use Rattle.metric_seat.specs.declared.total.Total.{Total}
 use Rattle.metric_slot.specs.declared.seen.Seen.{Seen}
-use Rattle.metric_periodic.proofs.outlet.Outlet.counts_all.Given as goal
+use Rattle.metric_periodic.proofs.outlet.OutletOutlets.are_counted.Given as goal
 
 abbrev pub invariant-loop-instrument : goal.invariant-loop-instrument
 invariant-loop-instrument g l =
