@@ -3,8 +3,8 @@ use crate::progress::Progress;
 use metric_base::Text;
 use metric_command_lines::is_standard;
 use metric_io::{ReadFault, StdSource, read_all};
-use std::alloc::Global;
-use std::fs::{self, File};
+use std::alloc::{AllocError, Global};
+use std::fs::{self, File, OpenOptions, Permissions};
 use std::io::{Error, ErrorKind, Read, Write};
 use wormweekly_commands::{Folder, Unread, Unwritten};
 
@@ -50,10 +50,11 @@ impl Folder for Disk<'_> {
 
     fn write(&mut self, path: &str, text: &[u8]) -> Result<(), Unwritten> {
         let written = match fs::metadata(self.rt, path) {
-            Ok(found) if found.is_file() => self.write_over(path, text),
+            Ok(found) if found.is_file() => self.write_over(path, text, found.permissions()),
             // A terminal, a pipe or a directory: nothing can stand in its place.
             Ok(_) => fs::write(self.rt, path, text),
-            Err(_) => self.replace(path, text),
+            Err(error) if error.kind() == ErrorKind::NotFound => self.write_new(path, text),
+            Err(error) => Err(error),
         };
         match written {
             Ok(()) => Ok(()),
@@ -104,18 +105,34 @@ impl Disk<'_> {
         }
     }
 
-    // Puts a file in the place of one that is there, and of none of the links that lead to it.
-    fn write_over(&self, path: &str, text: &[u8]) -> Result<(), Error> {
+    // Puts a file in the place of one that is there and may be written, with its mode, and of none of the links that
+    // lead to it.
+    fn write_over(&self, path: &str, text: &[u8], mode: Permissions) -> Result<(), Error> {
         let found = fs::canonicalize(self.rt, path)?;
-        self.replace(found.as_str(), text)
+        let _writable = OpenOptions::new()
+            .write(true)
+            .open(self.rt, found.as_str())?;
+        self.replace(found.as_str(), text, Some(mode))
+    }
+
+    // Makes a file that is not there; a link to none is followed.
+    fn write_new(&self, path: &str, text: &[u8]) -> Result<(), Error> {
+        if fs::symlink_metadata(self.rt, path).is_ok() {
+            fs::write(self.rt, path, text)
+        } else {
+            self.replace(path, text, None)
+        }
     }
 
     // Writes a file beside a path, and puts it there once it is whole.
-    fn replace(&self, path: &str, text: &[u8]) -> Result<(), Error> {
+    fn replace(&self, path: &str, text: &[u8], mode: Option<Permissions>) -> Result<(), Error> {
         for number in 0..MOST_NAMES {
-            let beside = format!(in self.rt.alloc(); "{path}.{number}.new")?;
+            let beside = self.beside(path, number)?;
             match fs::File::create_new(self.rt, beside.as_str()) {
-                Ok(file) => return self.fill_and_move(file, beside.as_str(), path, text),
+                Ok(file) => {
+                    let made = fill(file, text, mode);
+                    return self.put_there(made, beside.as_str(), path);
+                }
                 Err(error) if error.kind() == ErrorKind::AlreadyExists => {}
                 Err(error) => return Err(error),
             }
@@ -123,15 +140,19 @@ impl Disk<'_> {
         Err(Error::from(ErrorKind::AlreadyExists))
     }
 
-    // Writes a new file and moves it to a path, or removes it.
-    fn fill_and_move(
-        &self,
-        mut file: File,
-        beside: &str,
-        path: &str,
-        text: &[u8],
-    ) -> Result<(), Error> {
-        let moved = match file.write_all(text) {
+    // The path of a file in the folder of a path, whose name is short however long that path is.
+    fn beside(&self, path: &str, number: u32) -> Result<String, AllocError> {
+        match path.rsplit_once('/') {
+            Some((folder, _)) => {
+                format!(in self.rt.alloc(); "{folder}/.wormweekly.{number}.new")
+            }
+            None => format!(in self.rt.alloc(); ".wormweekly.{number}.new"),
+        }
+    }
+
+    // Moves a file that is made to a path, or removes it.
+    fn put_there(&self, made: Result<(), Error>, beside: &str, path: &str) -> Result<(), Error> {
+        let moved = match made {
             Ok(()) => fs::rename(self.rt, beside, path),
             Err(error) => Err(error),
         };
@@ -140,6 +161,15 @@ impl Disk<'_> {
         }
         moved
     }
+}
+
+// Writes a new file to the disk, with a mode from the first byte on.
+fn fill(mut file: File, text: &[u8], mode: Option<Permissions>) -> Result<(), Error> {
+    if let Some(mode) = mode {
+        file.set_permissions(mode)?;
+    }
+    file.write_all(text)?;
+    file.sync_all()
 }
 
 // Why a file is not read that cannot be opened.
