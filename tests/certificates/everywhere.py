@@ -1,4 +1,5 @@
-"""Alters the certificates of tests/certificates/made.txt in one place everywhere, and cuts one of them at each letter.
+"""Alters the certificates of tests/certificates/made.txt in one place everywhere, and cuts one of them at each letter, as it
+is made and as it is written by hand.
 
 A plain test of validity, tools/certificates/judge.py, tells the first fault of each, and `metric_kit check` has to tell
 the same.
@@ -138,7 +139,7 @@ def misjudged(program, sample, pool):
     made = sample.runs[0]["stdout"].decode()
     texts = list(altered(made))
     if sample.name == SAMPLES[0]:
-        texts += [files["by-hand.toml"][:end] for end in range(len(files["by-hand.toml"]) - 1)]
+        texts += [whole[:end] for whole in (made, files["by-hand.toml"]) for end in range(len(whole))]
     dues = [due_of(catalogue, config, text) for text in texts]
     tolds = list(pool.map(lambda text: told_of(program, parts, text), texts))
     wrong = [f"due {due}, told {told}:\n{text}" for due, told, text in zip(dues, tolds, texts) if due != told]

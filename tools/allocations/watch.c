@@ -1,7 +1,8 @@
 /* Watches what a program asks of the C library's heap between two marks: allocations of exactly MARK bytes, which the
    program makes for that alone. At each second mark the number since the first is written to the file descriptor
    WATCH_TELL, a line each. With WATCH_REFUSE in the environment each allocation between two marks is refused, and
-   counts. With WATCH_AT=n there only the n-th after the first mark is refused, where it comes before the second.
+   counts. With WATCH_AT=n there only the n-th after the first mark is refused, where it comes before the second. With
+   WATCH_ALL the program begins with a mark.
    It is loaded before the C library: cc -O2 -shared -fPIC -o watch.so watch.c */
 #include <errno.h>
 #include <stdatomic.h>
@@ -21,13 +22,6 @@ void *__libc_calloc(size_t count, size_t bytes);
 void *__libc_realloc(void *block, size_t bytes);
 void *__libc_memalign(size_t alignment, size_t bytes);
 
-__attribute__((constructor)) static void begin(void) {
-  refuses = getenv("WATCH_REFUSE") != NULL;
-  const char *fd = getenv("WATCH_TELL"), *number = getenv("WATCH_AT");
-  if (fd) tell = atoi(fd);
-  if (number) at = atol(number);
-}
-
 static void mark(void) {
   atomic_fetch_add(&marks, 1);
   if (atomic_fetch_xor(&watches, 1)) {
@@ -36,6 +30,14 @@ static void mark(void) {
     if (tell >= 0 && write(tell, line, length) != length) _exit(70);
   }
   atomic_store(&asked, 0);
+}
+
+__attribute__((constructor)) static void begin(void) {
+  refuses = getenv("WATCH_REFUSE") != NULL;
+  const char *fd = getenv("WATCH_TELL"), *number = getenv("WATCH_AT");
+  if (fd) tell = atoi(fd);
+  if (number) at = atol(number);
+  if (getenv("WATCH_ALL")) mark();
 }
 
 /* whether an allocation is refused, which counts */
