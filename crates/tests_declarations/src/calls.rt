@@ -3,7 +3,6 @@ use crate::asserted::{OrFail, assert_equal, assert_true};
 use metric_base::{Copied, is_same};
 use metric_catalogue::{Catalogue, CatalogueFault};
 use metric_combinations::{CombinationRows, Combinations};
-use metric_command_lines::{Line, command_of, lines_are_taken, others_are_refused};
 use metric_table::{FieldFaults, empty_table, format_up_to, insert, tabled, whole_in};
 use std::alloc::{AllocError, Global};
 use std::process::Abort;
@@ -95,16 +94,4 @@ fn what_is_not_declared_has_no_budget_and_no_spare(rt: HostRuntime) {
     let budgets = (shop.budget(0, 0), shop.budget(0, 1), shop.budget(9, 0));
     assert_equal(&rt, budgets, (7, 0, 0));
     assert_equal(&rt, (shop.spare(0), shop.spare(1)), (7, 0));
-}
-
-// Not even its own name.
-#[test]
-fn a_command_line_without_words_asks_for_a_trial(rt: HostRuntime) {
-    lines_are_taken();
-    others_are_refused();
-    let trial = Line::Replay {
-        trial: true,
-        audit: false,
-    };
-    assert_equal(&rt, command_of(rt.alloc(), &[]), Ok(trial));
 }

@@ -1,4 +1,4 @@
-//! What a host is told of a refusal, and where tables stand.
+//! What a host is told of a refusal, and of tables that do not stand in a text.
 use crate::asserted::{OrFail, assert_equal};
 use metric_advice::{explain_refusal, locate_in_catalogue, locate_in_config};
 use metric_catalogue::{Catalogue, CatalogueFault, CataloguePlace};
@@ -6,7 +6,6 @@ use metric_contents::Attr;
 use metric_names::ValueRef;
 use metric_views::ConfigPlace;
 use std::alloc::{AllocError, Global};
-use std::process::Abort;
 
 const JOBS: &str = r#"
 format = 1
@@ -161,102 +160,32 @@ fn refusals_are_explained(rt: HostRuntime) {
     }
 }
 
-const SCATTERED: &str = "format = 1
-  [[ meter ]] # one
-name = 'a'
-[[meter.instrument]]
-[[meter.instrument.key]]
-\t[[meter.'instrument']]
-[[\"meter\"]]
-[[meter.instrument]]
-[[recorder]]
-[[recorder.budget]]
-instrument = 0
-[[reader]]
-[[view]]
-[[view]]";
-
-// A place of a catalogue, and where it stands.
-const PLACES: &[(CataloguePlace, &str)] = &[
-    (CataloguePlace::Top, "Some(Position { line: 1, column: 1 })"),
-    (
-        CataloguePlace::Meter(0),
-        "Some(Position { line: 2, column: 3 })",
-    ),
-    (
-        CataloguePlace::Meter(1),
-        "Some(Position { line: 7, column: 1 })",
-    ),
-    (CataloguePlace::Meter(2), "None"),
-    (
-        CataloguePlace::Instrument(0),
-        "Some(Position { line: 4, column: 1 })",
-    ),
-    (
-        CataloguePlace::Instrument(1),
-        "Some(Position { line: 6, column: 2 })",
-    ),
-    (
-        CataloguePlace::Instrument(2),
-        "Some(Position { line: 8, column: 1 })",
-    ),
-    (
-        CataloguePlace::Recorder(0),
-        "Some(Position { line: 9, column: 1 })",
-    ),
-    (CataloguePlace::Recorder(1), "None"),
-];
-
-fn catalogue_place<R: Abort>(rt: &R, alloc: Global, text: &str, place: CataloguePlace) -> String {
-    let found = locate_in_catalogue(alloc, text, place).or_fail(rt);
-    format!(in alloc; "{found:?}").or_fail(rt)
-}
-
-// A list of instruments in one line, in which no place is found.
-const IDLE: &str = "format = 1
+const TABLES: &str = "format = 1
 [[meter]]
-name = 'm'
-instrument = [{ name = 'c', kind = 'counter', range = [0, 9] }]
-[[recorder]]
-name = 'one'
-[[recorder]]
-name = 'two'
-budget = [{ instrument = 0, amount = 0 }]
+[[reader]]
 ";
 
-fn config_place<R: Abort>(rt: &R, alloc: Global, text: &str, place: ConfigPlace) -> String {
-    let found = locate_in_config(alloc, text, place).or_fail(rt);
-    format!(in alloc; "{found:?}").or_fail(rt)
-}
-
+// Cases of `tests/` have where tables stand.
 #[test]
-fn tables_are_located(rt: HostRuntime) {
-    for (place, wanted) in PLACES {
-        let told = catalogue_place(&rt, rt.alloc(), SCATTERED, *place);
-        assert_equal(&rt, told.as_str(), *wanted);
+fn what_does_not_stand_in_a_catalogue_is_not_located(rt: HostRuntime) {
+    for (place, stands) in [
+        (CataloguePlace::Meter(0), true),
+        (CataloguePlace::Meter(1), false),
+        (CataloguePlace::Recorder(0), false),
+    ] {
+        let found = locate_in_catalogue(rt.alloc(), TABLES, place).or_fail(&rt);
+        assert_equal(&rt, found.is_some(), stands);
     }
-    let one_line = catalogue_place(&rt, rt.alloc(), IDLE, CataloguePlace::Instrument(0));
-    assert_equal(&rt, one_line.as_str(), "None");
 }
 
-// A place of a config, and where it stands.
-const CONFIG_PLACES: &[(ConfigPlace, &str)] = &[
-    (ConfigPlace::Top, "Some(Position { line: 1, column: 1 })"),
-    (
-        ConfigPlace::Reader(0),
-        "Some(Position { line: 12, column: 1 })",
-    ),
-    (ConfigPlace::Reader(1), "None"),
-    (
-        ConfigPlace::View(1),
-        "Some(Position { line: 14, column: 1 })",
-    ),
-];
-
 #[test]
-fn tables_of_configs_are_located(rt: HostRuntime) {
-    for (place, wanted) in CONFIG_PLACES {
-        let told = config_place(&rt, rt.alloc(), SCATTERED, *place);
-        assert_equal(&rt, told.as_str(), *wanted);
+fn what_does_not_stand_in_a_config_is_not_located(rt: HostRuntime) {
+    for (place, stands) in [
+        (ConfigPlace::Reader(0), true),
+        (ConfigPlace::Reader(1), false),
+        (ConfigPlace::View(0), false),
+    ] {
+        let found = locate_in_config(rt.alloc(), TABLES, place).or_fail(&rt);
+        assert_equal(&rt, found.is_some(), stands);
     }
 }

@@ -2,8 +2,8 @@
 use crate::asserted::{OrFail, assert_equal};
 use metric_advice::{KeyList, Limit, Remark};
 use metric_catalogue::CatalogueFault;
-use metric_command_lines::LineFault;
 use metric_contents::{Kind, Refusal};
+use metric_exposure::ExposureFault;
 use metric_glob::PatternFault;
 use metric_names::{NameFault, UnitFault};
 use metric_parts::InputFault;
@@ -49,13 +49,8 @@ fn faults_of_words_are_printed(rt: HostRuntime) {
 }
 
 #[test]
-fn usage_and_want_of_memory_are_printed(rt: HostRuntime) {
+fn want_of_memory_is_printed(rt: HostRuntime) {
     let alloc = rt.alloc();
-    assert_printed(
-        &rt,
-        alloc,
-        &[(LineFault::Usage, "usage"), (LineFault::Memory, "memory")],
-    );
     assert_printed(&rt, alloc, &[(InputFault::Memory, "memory")]);
     assert_printed(&rt, alloc, &[(CatalogueFault::Memory, "18 Memory")]);
     assert_printed(&rt, alloc, &[(ViewFault::Memory, "11 Memory")]);
@@ -170,4 +165,48 @@ const REMARKS: &[(Remark, &str)] = &[
 #[test]
 fn remarks_are_printed(rt: HostRuntime) {
     assert_printed(&rt, rt.alloc(), REMARKS);
+}
+
+const EXPOSURES: &[(ExposureFault, &str)] = &[
+    (ExposureFault::Delta { stream: 4 }, "1 Delta of stream 4"),
+    (
+        ExposureFault::Boundary { stream: 1 },
+        "2 Boundary of stream 1",
+    ),
+    (
+        ExposureFault::Nameless { stream: 2 },
+        "3 Nameless of stream 2",
+    ),
+    (
+        ExposureFault::NameCollision {
+            stream: 3,
+            with: Some(2),
+        },
+        "4 NameCollision of stream 3 and stream 2",
+    ),
+    (
+        ExposureFault::NameCollision {
+            stream: 3,
+            with: None,
+        },
+        "4 NameCollision of stream 3 and the target",
+    ),
+    (
+        ExposureFault::BadLabel { stream: 0, key: 1 },
+        "5 BadLabel of stream 0, key 1",
+    ),
+    (
+        ExposureFault::LabelCollision { stream: 0, key: 2 },
+        "6 LabelCollision of stream 0, key 2",
+    ),
+    (
+        ExposureFault::ValueCollision { stream: 5, key: 0 },
+        "7 ValueCollision of stream 5, key 0",
+    ),
+    (ExposureFault::Memory, "8 Memory"),
+];
+
+#[test]
+fn faults_of_exposures_are_printed(rt: HostRuntime) {
+    assert_printed(&rt, rt.alloc(), EXPOSURES);
 }

@@ -17,11 +17,7 @@ mod devices;
 #[cfg(test)]
 mod explained;
 #[cfg(test)]
-mod exposures;
-#[cfg(test)]
 mod faults;
-#[cfg(test)]
-mod memory;
 #[cfg(test)]
 mod told;
 #[cfg(test)]
