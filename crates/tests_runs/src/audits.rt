@@ -1,11 +1,10 @@
-//! Audits of journals, slips and batches that are told in full.
+//! Audits of journals, slips and batches that are told in full. Cases of `tests/` audit whole runs.
 use crate::asserted::{OrFail, assert_equal};
 use crate::plans::plan_of;
 use metric_aggregate::PointValue;
-use metric_audit::{Audited, audit};
+use metric_audit::audit;
 use metric_base::Items;
-use metric_core::Core;
-use metric_history::{Batch, Entry, Event, Point, Reply, Slip, StreamPoints};
+use metric_history::{Batch, Entry, Point, Slip, StreamPoints};
 use metric_plan::Plan;
 use std::alloc::Global;
 use std::process::Abort;
@@ -271,64 +270,4 @@ fn the_first_thing_that_differs_is_told(rt: HostRuntime) {
     for case in CASES {
         assert_equal(&rt, answer_to(&rt, rt.alloc(), case).as_str(), case.3);
     }
-}
-
-fn events_of<R: Abort>(rt: &R, alloc: Global) -> Vec<Event> {
-    let mut events = Vec::new(alloc);
-    for (kind, number, at) in SCRIPT {
-        let event = match *kind {
-            'r' => Event::Record {
-                recorder: 0,
-                instrument: 0,
-                attrs: Items::new(alloc),
-                value: i64::from(*number),
-            },
-            _ => Event::Collect {
-                reader: *number,
-                instrument: 0,
-                now: *at,
-            },
-        };
-        events.push(event).or_fail(rt);
-    }
-    events
-}
-
-// Recordings with their values, and collections with their readers and times.
-const SCRIPT: &[(char, u32, u64)] = &[
-    ('r', 5, 0),
-    ('c', 1, 10),
-    ('r', 7, 0),
-    ('c', 0, 20),
-    ('c', 1, 30),
-    ('c', 1, 25),
-];
-
-fn batches_told<R: Abort>(rt: &R, alloc: Global, replies: Vec<Reply>) -> Vec<Batch> {
-    let mut batches = Vec::new(alloc);
-    for reply in replies {
-        if let Reply::Collected(batch) = reply {
-            batches.push(batch).or_fail(rt);
-        }
-    }
-    batches
-}
-
-fn answer_to_run<R: Abort>(rt: &R, alloc: Global) -> String {
-    let plan = plan_of(rt, alloc, CATALOGUE, CONFIG);
-    let Ok(mut core) = Core::<Audited>::new(alloc, plan, 0) else {
-        panic!(rt; "memory");
-    };
-    let replies = core.run(alloc, &events_of(rt, alloc)).or_fail(rt);
-    let batches = batches_told(rt, alloc, replies);
-    if core.plan().all_facts().is_empty() {
-        panic!(rt; "no such instrument");
-    }
-    let slips = [slips_of(rt, alloc, &[5, 7])];
-    answer(rt, alloc, core.plan(), core.entries(0), &slips, &batches)
-}
-
-#[test]
-fn a_run_agrees_with_its_journal(rt: HostRuntime) {
-    assert_equal(&rt, answer_to_run(&rt, rt.alloc()).as_str(), "done");
 }

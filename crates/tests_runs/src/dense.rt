@@ -1,23 +1,18 @@
-//! Dense tables: the ranks of sets, the points after them, and scripts over plans whose streams are all by product.
+//! Dense tables: the ranks of sets, and the points after them. A case of `tests/` runs scripts over them.
 ghost use Rattle.std.specs.Prelude.{◌≡◌, ◌==◌, true};
 ghost use Rattle.std.specs.List.{list_all};
 ghost use Rattle.metric_facts.specs.Facts.{is_entry, is_full_set};
 ghost use Rattle.metric_facts.specs.Products.{AreDense};
 ghost use Rattle.tests_runs.specs.Taking.{TakesFullSets};
 
-use crate::agreement::{BOUNDARIES, COMBINED, KEYS, Lines, SMALL, push_lines, push_script};
 use crate::asserted::{OrFail, assert_equal};
-use crate::dice::Dice;
 use crate::plans::dense_plan_of;
-use crate::runs::{Made, told, told_by};
 use metric_catalogue::Catalogue;
 use metric_cert::By;
 use metric_contents::SetKey;
 use metric_dense::{DenseTable, dense_table};
 use metric_facts::{Facts, KeyFacts};
-use metric_journal::JournalBook;
 use metric_make::make;
-use metric_marked::Marked;
 use metric_plan::Plan;
 use metric_series::Table;
 use metric_views::Config;
@@ -215,92 +210,4 @@ fn tables_told<R: Abort>(rt: &R, alloc: Global) -> String {
 #[test]
 fn a_dense_table_has_a_place_for_each_series(rt: HostRuntime) {
     assert_equal(&rt, tables_told(&rt, rt.alloc()).as_str(), TOLD);
-}
-
-// How many inputs there are.
-const INPUTS: u64 = 12;
-
-const DECLARED: &[Lines] = &[
-    &["%% catalogue\nformat = 2\n[[meter]]\nname = 'm'\n"],
-    &["[[meter.instrument]]\nname = 'i0'\nkind = 'counter'\nrange = [0, 9]\n"],
-    BOUNDARIES,
-    KEYS,
-    &["[[meter.instrument]]\nname = 'i1'\nkind = 'up_down_counter'\nrange = [-9, 9]\n"],
-    BOUNDARIES,
-    KEYS,
-    &["[[meter.instrument]]\nname = 'i2'\nkind = 'histogram'\nrange = [0, 9]\n"],
-    BOUNDARIES,
-    KEYS,
-    &["[[meter.instrument]]\nname = 'i3'\nkind = 'gauge'\nrange = [-9, 9]\n"],
-    BOUNDARIES,
-    KEYS,
-    &["[[meter.instrument]]\nname = 'i4'\nkind = 'counter'\nrange = [0, 9]\n"],
-    BOUNDARIES,
-    COMBINED,
-];
-
-const BUDGETS: &[Lines] = &[
-    &["budget = [{ instrument = 0, amount = "],
-    SMALL,
-    &[" }, { instrument = 1, amount = "],
-    SMALL,
-    &[" }, { instrument = 2, amount = "],
-    SMALL,
-    &[" }, { instrument = 3, amount = "],
-    SMALL,
-    &[" }, { instrument = 4, amount = "],
-    SMALL,
-    &[" }]\n"],
-];
-
-const READER: &[Lines] = &[
-    &[
-        "",
-        "temporality = { counter = 'delta', gauge = 'delta' }\n",
-        "temporality = { up_down_counter = 'delta', histogram = 'delta' }\n",
-    ],
-    &[
-        "",
-        "aggregation = { histogram = 'sum' }\n",
-        "aggregation = { counter = 'explicit_bucket_histogram', gauge = 'explicit_bucket_histogram' }\n",
-    ],
-];
-
-const VIEW: &[Lines] = &[&[
-    "",
-    "[[view]]\nkeep = []\n",
-    "[[view]]\nexclude = ['k0']\n",
-    "[[view]]\nkeep = ['k1', 'k2']\n",
-    "[[view]]\naggregation = 'sum'\n",
-]];
-
-fn push_input<R: Abort>(out: &mut String, rt: &R, dice: &mut Dice) {
-    push_lines(out, rt, dice, DECLARED);
-    for number in 0..3 {
-        write!(out, "[[recorder]]\nname = 'p{number}'\n").or_fail(rt);
-        push_lines(out, rt, dice, BUDGETS);
-    }
-    out.push_str("%% config\nformat = 1\n").or_fail(rt);
-    for number in 0..16 {
-        write!(out, "[[reader]]\nname = 'q{number}'\n").or_fail(rt);
-        push_lines(out, rt, dice, READER);
-    }
-    push_lines(out, rt, dice, VIEW);
-    push_script(out, rt, dice);
-}
-
-// Whether dense tables give the replies of a book that keeps the whole journal.
-fn agrees<R: Abort>(rt: &R, alloc: Global, seed: u64) -> bool {
-    let mut input = String::new(alloc);
-    push_input(&mut input, rt, &mut Dice::new(seed));
-    let wanted = told::<R, JournalBook>(rt, alloc, &input, usize::MAX);
-    let found = told_by::<R, Marked>(rt, alloc, &input, Made::Dense, usize::MAX);
-    found.as_str() == wanted.as_str()
-}
-
-#[test]
-fn dense_tables_give_the_same_replies(rt: HostRuntime) {
-    for seed in 0..INPUTS {
-        assert_equal(&rt, (seed, agrees(&rt, rt.alloc(), seed)), (seed, true));
-    }
 }

@@ -1,6 +1,6 @@
 //! Runs of an input's script on a core, and the text of the replies, which is what a replay writes.
 use crate::asserted::OrFail;
-use crate::plans::{dense_plan_of, plan_of};
+use crate::plans::plan_of;
 use metric_contents::Refusal;
 use metric_core::Core;
 use metric_history::{Book, Event, Reply};
@@ -55,26 +55,6 @@ fn push_pieces<R: Abort, B: Book>(
     }
 }
 
-/// How the plan of a run is made.
-#[derive(Clone, Copy)]
-pub(crate) enum Made {
-    /// As a trial.
-    Tried,
-    /// By a certificate that has each stream by product.
-    Dense,
-}
-
-impl Made {
-    fn plan_of<R: Abort>(self, rt: &R, alloc: Global, parts: &Parts<'_>) -> Plan {
-        let catalogue = parts.catalogue.as_str();
-        let config = parts.config.as_str();
-        match self {
-            Made::Tried => plan_of(rt, alloc, catalogue, config),
-            Made::Dense => dense_plan_of(rt, alloc, catalogue, config),
-        }
-    }
-}
-
 fn core_of<R: Abort, B: Book>(rt: &R, alloc: Global, plan: Plan, start: u64) -> Core<B> {
     match Core::new(alloc, plan, start) {
         Ok(core) => core,
@@ -87,63 +67,38 @@ fn script_of<R: Abort>(rt: &R, alloc: Global, parts: &Parts<'_>) -> ScriptEvents
     events_of(alloc, script).or_fail(rt)
 }
 
-fn push_run<R: Abort, B: Book>(
-    out: &mut Vec<u8>,
-    rt: &R,
-    alloc: Global,
-    parts: &Parts<'_>,
-    made: Made,
-    size: usize,
-) {
-    let script = script_of(rt, alloc, parts);
-    let plan = made.plan_of(rt, alloc, parts);
-    let mut core: Core<B> = core_of(rt, alloc, plan, script.start);
-    push_pieces(out, rt, alloc, &mut core, script.events.as_slice(), size);
-}
-
 const TRIAL: Needs = Needs {
     certificate: false,
     script: true,
 };
 
-fn push_input<R: Abort, B: Book>(
-    out: &mut Vec<u8>,
-    rt: &R,
-    alloc: Global,
-    input: &[u8],
-    made: Made,
-    size: usize,
-) {
-    let lines = lines(alloc, input).or_fail(rt);
+// A new core of an input, and its script.
+fn started<R: Abort, B: Book>(rt: &R, alloc: Global, input: &str) -> (Core<B>, ScriptEvents) {
+    let lines = lines(alloc, input.as_bytes()).or_fail(rt);
     let parts = parts_of(alloc, &lines, TRIAL).or_fail(rt);
-    push_run::<R, B>(out, rt, alloc, &parts, made, size);
+    let script = script_of(rt, alloc, &parts);
+    let plan = plan_of(rt, alloc, parts.catalogue.as_str(), parts.config.as_str());
+    (core_of(rt, alloc, plan, script.start), script)
 }
 
 /// The replies of a new core to the script of an input, where each run has at most so many events.
 pub(crate) fn told<R: Abort, B: Book>(rt: &R, alloc: Global, input: &str, size: usize) -> String {
-    told_by::<R, B>(rt, alloc, input, Made::Tried, size)
-}
-
-/// The same, where the plan is made in this way.
-pub(crate) fn told_by<R: Abort, B: Book>(
-    rt: &R,
-    alloc: Global,
-    input: &str,
-    made: Made,
-    size: usize,
-) -> String {
+    let (mut core, script) = started::<R, B>(rt, alloc, input);
     let mut out = Vec::new(alloc);
-    push_input::<R, B>(&mut out, rt, alloc, input.as_bytes(), made, size);
+    push_pieces(
+        &mut out,
+        rt,
+        alloc,
+        &mut core,
+        script.events.as_slice(),
+        size,
+    );
     String::from_utf8(out).or_fail(rt)
 }
 
 /// A new core after the script of an input, and its replies.
 pub(crate) fn ran<R: Abort, B: Book>(rt: &R, alloc: Global, input: &str) -> (Core<B>, Vec<Reply>) {
-    let lines = lines(alloc, input.as_bytes()).or_fail(rt);
-    let parts = parts_of(alloc, &lines, TRIAL).or_fail(rt);
-    let script = script_of(rt, alloc, &parts);
-    let plan = Made::Tried.plan_of(rt, alloc, &parts);
-    let mut core: Core<B> = core_of(rt, alloc, plan, script.start);
+    let (mut core, script) = started::<R, B>(rt, alloc, input);
     let replies = core.run(alloc, script.events.as_slice()).or_fail(rt);
     (core, replies)
 }
