@@ -11,6 +11,7 @@ ghost use Rattle.metric_contents.specs.KeyNames.{is_key};
 
 use crate::attributes::{Attribute, OwnedAttr};
 use crate::contents::{Instrument, Key};
+use crate::packed::same_text;
 use crate::refusal::Refusal;
 use crate::repeats::{has_repeated_key, has_repeated_key_with_room, is_given};
 use metric_combinations::permits;
@@ -22,6 +23,7 @@ pub type SetKey = [u16; 8];
 
 /// The set key of attributes for the instrument of this number, or the first refusal. Allocates no memory.
 #[tactic(auto, unfolding(crate::specs::Encoding::encode_of, crate::specs::Encoding::allowed_set))]
+#[inline(always)]
 pub fn encode_of<A: Attribute>(
     instruments: &[Instrument],
     instrument: u32,
@@ -82,6 +84,7 @@ fn allowed(instrument: &Instrument, set: SetKey) -> Result<SetKey, Refusal>
 // The usual order is tried first; then which keys are declared, since attributes of declared keys alone
 // soon repeat one.
 #[tactic(auto, unfolding(crate::specs::Encoding::set_of))]
+#[inline(always)]
 fn set_of<A: Attribute>(keys: &[Key], attrs: &[A]) -> Result<SetKey, Refusal>
     requires few { length keys.now ≤ 8 }
     requires apart { AreKeysApart keys.now }
@@ -126,6 +129,7 @@ fn set_with_room<'a>(
 // The set key of attributes that stand in the order of their keys, as they mostly do: one pass finds it.
 // Nothing where they do not, or where there is a refusal to tell.
 #[tactic(auto, unfolding(crate::specs::InOrder::set_in_order))]
+#[inline(always)]
 fn set_in_order<A: Attribute>(keys: &[Key], attrs: &[A]) -> Option<SetKey>
     requires { length keys.now ≤ 8 }
     ensures { result ≡ set_in_order keys.now (map A.given attrs.now) }
@@ -141,12 +145,13 @@ fn set_in_order<A: Attribute>(keys: &[Key], attrs: &[A]) -> Option<SetKey>
 }
 
 // The entry of a key, whose attribute stands first where it has one, and the attributes that are left.
+#[inline(always)]
 fn entry_in_order<'a, A: Attribute>(key: &Key, attrs: &'a [A]) -> Option<(u16, &'a [A])>
     ensures { option_map (λ taken. (taken.0, map A.given taken.1.now)) result
         ≡ entry_in_order key.now (map A.given attrs.now) }
 {
     if let Some((attr, rest)) = attrs.split_first() {
-        if attr.key() == key.name.as_str() {
+        if same_text(attr.key(), key.name.as_str()) {
             return Some((entry_with(key, attr.value())?, rest));
         }
     }
@@ -155,6 +160,7 @@ fn entry_in_order<'a, A: Attribute>(key: &Key, attrs: &'a [A]) -> Option<(u16, &
 
 // The set key of attributes whose keys are all declared, or the first refusal.
 #[tactic(auto, unfolding(crate::specs::Encoding::set_of))]
+#[inline(never)]
 fn set_of_declared<A: Attribute>(keys: &[Key], attrs: &[A]) -> Result<SetKey, Refusal>
     requires keys { length keys.now ≤ 8 }
     requires declared { list_all (is_declared keys.now) (map A.given attrs.now) ≡ true }
@@ -172,6 +178,7 @@ fn set_of_declared<A: Attribute>(keys: &[Key], attrs: &[A]) -> Result<SetKey, Re
 
 // Whether each key is declared.
 #[tactic(auto, using(crate::proofs::Mapped::maps))]
+#[inline(never)]
 fn are_declared<A: Attribute>(keys: &[Key], attrs: &[A]) -> bool
     ensures { result ≡ list_all (is_declared keys.now) (map A.given attrs.now) }
 {
@@ -243,6 +250,7 @@ fn entry_at<A: Attribute>(key: &Key, attrs: &[A]) -> Option<u16>
     }
 }
 
+#[inline(always)]
 fn entry_with(key: &Key, value: ValueRef<'_>) -> Option<u16>
     ensures { result ≡ entry_with key.now (value_of value.entry) }
 {

@@ -42,6 +42,7 @@ impl Numbering {
     }
 
     // The number of a value.
+    #[inline(never)]
     pub(crate) fn number_of(&self, value: ValueRef<'_>) -> Option<u16>
         ensures { result ≡ number_in self.now (value_of value.entry) }
     {

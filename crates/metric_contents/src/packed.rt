@@ -1,6 +1,8 @@
 //! Short texts as words.
-ghost use Rattle.std.specs.Prelude.{◌≡◌, ◌<◌, ◌≤◌, length, MatchOption};
+ghost use Rattle.std.specs.Prelude.{◌≡◌, ◌<◌, ◌≤◌, IsTrue, length, MatchOption, Some};
+ghost use Rattle.std.specs.Str.{bytes_eq};
 ghost use Rattle.metric_contents.specs.Packed.{text_of};
+ghost use Rattle.metric_contents.specs.declared.packed.Packed.{Packed};
 
 // A text of at most 16 bytes: a word of its first bytes, one of its last bytes, which may overlap, and how
 // many bytes there are. So texts are compared and hashed without a step for each byte.
@@ -102,5 +104,26 @@ impl Packed {
     #[inline(always)]
     pub(crate) fn hash(&self) -> u64 {
         (self.first ^ self.last.rotate_left(29)).wrapping_mul(0x9E37_79B9_7F4A_7C15)
+    }
+}
+
+// Whether two texts are the same: two short ones, as most are, by their words.
+#[inline(always)]
+pub(crate) fn same_text(text: &str, other: &str) -> bool
+    ensures { result ≡ bytes_eq text.now other.now }
+{
+    if are_same_words(Packed::of(text), Packed::of(other)) {
+        return true;
+    }
+    text == other
+}
+
+#[inline(always)]
+fn are_same_words(words: Option<Packed>, others: Option<Packed>) -> bool
+    ensures { IsTrue result → (short : Packed) × ((words ≡ Some short) × (others ≡ Some short)) }
+{
+    match (words, others) {
+        (Some(words), Some(others)) => words == others,
+        _ => false,
     }
 }

@@ -29,6 +29,7 @@ impl Budgets {
 
     // Whether the recorder has made fewer recordings than its budget and what it was granted. Grants are looked at only
     // where the budget is spent.
+    #[inline(always)]
     pub(crate) fn has_left(&self, budgets: &[u64], recorder: u32) -> bool
         requires spent { recorder < vec_len self.now.spent }
         requires granted { recorder < vec_len self.now.granted }
@@ -44,6 +45,7 @@ impl Budgets {
     }
 
     // Counts one recording more of the recorder.
+    #[inline(always)]
     pub(crate) fn charge(&mut self, recorder: u32)
         requires known { recorder < vec_len self.old.spent }
         requires room { slice_index self.old.spent.items recorder + 1 < 2 ^ 64 }
@@ -70,6 +72,7 @@ impl Budgets {
     }
 
     // How many recordings the recorder has made; none for one of another number.
+    #[inline(always)]
     pub(crate) fn spent(&self, recorder: u32) -> u64
         ensures { result ≡ slice_index self.now.spent.items recorder }
     {

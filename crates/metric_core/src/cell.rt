@@ -139,6 +139,7 @@ impl<B: Book> Cell<B> {
     /// closed, else `Budget` exactly where the recorder has made as many recordings as its budget and what it was
     /// granted, else `SumRange` exactly where some series would leave its range; the only other refusal is `Memory`,
     /// which never comes where the book says that recordings take none.
+    #[inline(always)]
     pub fn record(&mut self, recorder: u32, set: SetKey, value: i64) -> Result<(), Refusal>
         requires recorder { recorder < length self.old.facts.budgets }
         requires set { is_allowed_set self.old.facts set ≡ true }
@@ -290,6 +291,7 @@ impl<B: Book> Cell<B> {
     }
 
     /// How many recordings the recorder has made; none for one of another number.
+    #[inline(always)]
     pub fn spent(&self, recorder: u32) -> u64
         ensures spent { result ≡ slice_index self.now.spent recorder }
         ensures within { result ≤ budget_of self.now recorder }
@@ -361,6 +363,7 @@ impl<B: Book> Cell<B> {
 }
 
 // The sum with one value more.
+#[inline(always)]
 fn total_with(total: &i128, value: &i64) -> i128
     requires low { neg_ℤ (pos (2 ^ 127 - 2 ^ 63)) ≤ℤ total.now }
     requires high { total.now ≤ℤ pos (2 ^ 127 - 2 ^ 63) }

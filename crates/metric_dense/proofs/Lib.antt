@@ -4,3 +4,4 @@ pub mod Holding
 pub mod Taking
 pub mod Reporting
 pub mod Emptying
+pub mod StepLaws

@@ -1,17 +1,15 @@
 -- Ranks are below the product, are of one series each, and are ordered as the series.
-use Rattle.std.proofs.Common.{◌≡◌, ℕ, zero, suc, ◌+◌, ◌-◌, ◌*◌, ◌/◌, ◌%◌, ◌<◌, ◌≤◌, Ordering, Less, Equal, Greater, Bool, true, false, cond, All, List, [], ◌∷◌, length, map, refl, sym, ap, subst, ◌∙◌, arith}
+use Rattle.std.proofs.Common.{◌≡◌, ℕ, zero, suc, ◌+◌, ◌-◌, ◌*◌, ◌/◌, ◌%◌, ◌<◌, ◌≤◌, Ordering, Less, Equal, Greater, Bool, true, false, cond, List, [], ◌∷◌, length, refl, sym, ap, subst, ◌∙◌, arith}
 use Rattle.std.specs.Prelude.{◌==◌, nat_le, replicate}
 use Rattle.std.specs.List.{list_all}
 use Rattle.std.specs.Ordering.{MatchOrdering, nat_cmp, ordering_then}
 use Rattle.std.specs.Cmp.{nat_cmp_is, ranks}
 use Rattle.std.specs.Cmp.Lexicographic.{slice_cmp}
 use Rattle.std.proofs.lemmas.Bool.{and_parts, true≢false, eqb-true}
-use Rattle.std.proofs.lemmas.Bool.Decides.{nat_tests}
-use Rattle.std.proofs.lemmas.List.Elements.{All-head, All-tail}
 use Rattle.std.proofs.lemmas.Nat.{mul-add-lt, div-mul-add, mod-mul-add, div-add-mod'}
 use Rattle.std.proofs.Math.Nat.{mul_comm, mul-le-mul_left, mod-lt, mod-eq_of_lt, div-lt_iff_lt-mul}
 use Rattle.metric_facts.specs.declared.facts.KeyFacts.{KeyFacts}
-use Rattle.metric_facts.specs.Facts.{is_entry, is_full_set, key_facts}
+use Rattle.metric_facts.specs.Facts.{is_entry, is_full_set}
 use Rattle.metric_facts.specs.Products.{radix, product_of}
 use Rattle.metric_facts.specs.Ranks.{digit_if, rank, rank_below}
 use Rattle.metric_dense.specs.Ranks.{entry_if, unrank}

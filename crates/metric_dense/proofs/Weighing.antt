@@ -8,7 +8,8 @@ use Rattle.metric_facts.specs.declared.facts.KeyFacts.{KeyFacts}
 use Rattle.metric_facts.specs.Facts.{is_entry, is_full_set}
 use Rattle.metric_facts.specs.Products.{product_of}
 use Rattle.metric_facts.specs.Ranks.{digit_if, rank}
-use Rattle.metric_dense.specs.Weights.{IsTable, weighted, weights_of, offsets_of}
+use Rattle.metric_dense.specs.Weights.{IsTable, weighted, weights_of}
+use Rattle.metric_facts.specs.EntryRanges.{least_of}
 
 -- the first place apart
 shift : (n w x : ℕ) (weights set : List ℕ) → weighted (suc n) (w ∷ weights) (x ∷ set) ≡ w * x + weighted n weights set
@@ -44,11 +45,11 @@ kept_worth false key x w e = omega arith
 
 -- a full set weighs as much as its rank and the least entries
 weighted_rank : (n : ℕ) (kept : List Bool) (keys : List KeyFacts) (set : List ℕ) → length kept ≡ length keys → length keys ≤ n → is_full_set keys set ≡ true
-    → weighted n (weights_of n kept keys) set ≡ rank kept keys set + weighted n (weights_of n kept keys) (offsets_of n keys)
+    → weighted n (weights_of n kept keys) set ≡ rank kept keys set + weighted n (weights_of n kept keys) (least_of n keys)
 weighted_rank zero [] keys set flags few full = omega arith
 weighted_rank zero (flag ∷ kept) [] set flags few full = absurd (omega arith)
 weighted_rank zero (flag ∷ kept) (key ∷ keys) set flags few full = absurd (omega arith)
-weighted_rank (suc n) [] keys set flags few full = omega (arith, nothing (suc n) (suc n) set, nothing (suc n) (suc n) (offsets_of (suc n) keys))
+weighted_rank (suc n) [] keys set flags few full = omega (arith, nothing (suc n) (suc n) set, nothing (suc n) (suc n) (least_of (suc n) keys))
 weighted_rank (suc n) (flag ∷ kept) [] set flags few full = absurd (omega arith)
 weighted_rank (suc n) (flag ∷ kept) (key ∷ keys) [] flags few full = absurd (true≢false (sym full))
 weighted_rank (suc n) (flag ∷ kept) (key ∷ keys) (x ∷ set) flags few full =
@@ -57,7 +58,7 @@ weighted_rank (suc n) (flag ∷ kept) (key ∷ keys) (x ∷ set) flags few full 
     omega (
       arith,
       shift n (cond flag w 0) x (weights_of n kept keys) set,
-      shift n (cond flag w 0) (cond key.optional 0 1) (weights_of n kept keys) (offsets_of n keys),
+      shift n (cond flag w 0) (cond key.optional 0 1) (weights_of n kept keys) (least_of n keys),
       kept_worth flag key x w parts.0,
       weighted_rank n kept keys set (omega arith) (omega arith) parts.1,
     )
@@ -68,7 +69,7 @@ pub table_ranks : (kept : List Bool) (keys : List KeyFacts) (weights : List ℕ)
 table_ranks kept keys weights base set table full =
     ap (λ (ws : List ℕ). weighted 8 ws set) table.weighed
     ∙ weighted_rank 8 kept keys set table.ranked.flags table.ranked.few full
-    ∙ ap (λ (ws : List ℕ). rank kept keys set + weighted 8 ws (offsets_of 8 keys)) (sym table.weighed)
+    ∙ ap (λ (ws : List ℕ). rank kept keys set + weighted 8 ws (least_of 8 keys)) (sym table.weighed)
     ∙ ap (λ (n : ℕ). rank kept keys set + n) (sym table.least)
 
 -- a product of which a part was cut off at a number, cut off there

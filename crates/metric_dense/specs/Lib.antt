@@ -1,4 +1,5 @@
 pub mod Ranks
 pub mod RankLaws
+pub mod Steps
 pub mod Weights
 pub mod DenseTables

@@ -1,9 +1,9 @@
 -- What holds of each rank.
-use Rattle.std.specs.Prelude.{◌≡◌, ℕ, ◌+◌, ◌<◌, Bool, true, List, length, map}
+use Rattle.std.specs.Prelude.{◌≡◌, ℕ, ◌+◌, ◌<◌, Bool, true, List, length}
 use Rattle.std.specs.Ordering.{nat_cmp}
 use Rattle.std.specs.Cmp.Lexicographic.{slice_cmp}
 use Rattle.metric_facts.specs.declared.facts.KeyFacts.{KeyFacts}
-use Rattle.metric_facts.specs.Facts.{is_full_set, key_facts}
+use Rattle.metric_facts.specs.Facts.{is_full_set}
 use Rattle.metric_combinations.specs.Restrictions.{restricted}
 use Rattle.metric_facts.specs.Products.{product_of}
 use Rattle.metric_facts.specs.Ranks.{rank}

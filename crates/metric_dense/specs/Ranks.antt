@@ -1,9 +1,9 @@
 -- The series of a rank, and the keys whose sets have one.
-use Rattle.std.specs.Prelude.{◌≡◌, ℕ, ◌+◌, ◌-◌, ◌*◌, ◌/◌, ◌%◌, ◌≤◌, ◌<◌, ◌^◌, Bool, true}
+use Rattle.std.specs.Prelude.{◌≡◌, ℕ, ◌+◌, ◌-◌, ◌/◌, ◌%◌, ◌≤◌, ◌<◌, ◌^◌, Bool, true}
 use Rattle.std.specs.Prelude.{if◌then◌else◌, List, [], ◌∷◌, length, replicate}
 use Rattle.metric_facts.specs.declared.facts.KeyFacts.{KeyFacts}
 use Rattle.metric_facts.specs.Facts.{is_full_set}
-use Rattle.metric_facts.specs.Products.{key_choices, product_of}
+use Rattle.metric_facts.specs.Products.{product_of}
 
 -- the entry of a digit
 abbrev pub entry_of : KeyFacts → ℕ → ℕ

@@ -2,6 +2,7 @@
 use Rattle.std.specs.Prelude.{◌≡◌, ℕ, zero, suc, ◌+◌, ◌*◌, Bool, if◌then◌else◌, List, [], ◌∷◌}
 use Rattle.std.specs.Prelude.{replicate, slice_index_or}
 use Rattle.metric_facts.specs.declared.facts.KeyFacts.{KeyFacts}
+use Rattle.metric_facts.specs.EntryRanges.{least_of}
 use Rattle.metric_facts.specs.Products.{product_of}
 use Rattle.metric_dense.specs.Ranks.{IsRanked}
 
@@ -19,12 +20,6 @@ weights_of (suc n) (flag ∷ kept) [] = replicate (suc n) 0
 weights_of (suc n) (flag ∷ kept) (key ∷ keys) =
     (if flag then product_of kept keys else 0) ∷ weights_of n kept keys
 
--- for n places the least entry
-abbrev pub offsets_of : ℕ → List KeyFacts → List ℕ
-offsets_of zero keys = []
-offsets_of (suc n) [] = replicate (suc n) 0
-offsets_of (suc n) (key ∷ keys) = (if key.optional then 0 else 1) ∷ offsets_of n keys
-
 -- of which keys ranks are, of which each is kept or not
 pub record RanksValue : Type 0 where
   pub kept : List Bool
@@ -35,4 +30,4 @@ pub record IsTable (kept : List Bool) (keys : List KeyFacts) (weights : List ℕ
     : Type 0 where
   pub ranked : IsRanked kept keys
   pub weighed : weights ≡ weights_of 8 kept keys
-  pub least : base ≡ weighted 8 weights (offsets_of 8 keys)
+  pub least : base ≡ weighted 8 weights (least_of 8 keys)

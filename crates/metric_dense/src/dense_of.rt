@@ -79,6 +79,7 @@ impl<A: Aggregate> DenseOf<A> {
 
     // The rank of a full set, at which there is an aggregate.
     #[tactic(auto, using(metric_facts::specs::Ranks::rank_below))]
+    #[inline(always)]
     fn place(&self, set: &SetKey) -> usize
         requires { is_full_set self.now.keys set.now ≡ true }
         ensures rank { result ≡ rank_of self.now.kept self.now.keys set.now }
@@ -92,21 +93,6 @@ impl<A: Aggregate> DenseOf<A> {
         ensures { result ≡ count_by (λ a. not (A.is_empty a)) self.now.aggregates }
     {
         self.aggregates.iter().filter(|a| !a.is_empty()).count()
-    }
-
-    // The point of the series of a rank.
-    fn point(&self, alloc: Global, rank: usize, aggregate: &A) -> Result<Point, AllocError>
-        requires below { rank < product_of self.now.kept self.now.keys }
-        requires some { A.is_empty aggregate.now ≡ false }
-        ensures { IfOk result (λ point. (added : List ℤ) → A.stands aggregate.now added
-            → point ≡ record {
-              set = Some (series_of self.now.kept self.now.keys rank);
-              value = value_of (A.aggregation aggregate.now) added;
-            }) }
-    {
-        let value = aggregate.read(alloc)?;
-        let set = Some(self.ranks.series(rank));
-        Ok(Point { set, value })
     }
 }
 
@@ -125,6 +111,7 @@ impl<A: Aggregate> Table for DenseOf<A> {
         fits_at(self.aggregates.as_slice(), self.place(set), value)
     }
 
+    #[inline(always)]
     fn ready(&mut self, set: &SetKey, value: i64) -> Result<Place, SeriesFault> {
         let rank = self.place(set);
         if fits_at(self.aggregates.as_slice(), rank, value) {
@@ -134,6 +121,7 @@ impl<A: Aggregate> Table for DenseOf<A> {
         }
     }
 
+    #[inline(always)]
     fn put(&mut self, place: Place, value: i64) {
         if let Place::Held(rank) = place {
             add_at(self.aggregates.as_mut_slice(), rank, value);
@@ -148,16 +136,33 @@ impl<A: Aggregate> Table for DenseOf<A> {
 
     fn points(&self, alloc: Global) -> Result<Vec<Point>, AllocError> {
         let mut points = Vec::with_capacity(alloc, self.used())?;
-        for (rank, aggregate) in self.aggregates.iter().enumerate() {
+        let mut set = self.ranks.first();
+        for (_rank, aggregate) in self.aggregates.iter().enumerate() {
             if !aggregate.is_empty() {
-                points.push(self.point(alloc, rank, aggregate)?)?;
+                points.push(point(alloc, set, aggregate)?)?;
             }
+            self.ranks.step(&mut set);
         }
         Ok(points)
     }
 }
 
+// The point of a series.
+fn point<A: Aggregate>(alloc: Global, set: SetKey, aggregate: &A) -> Result<Point, AllocError>
+    requires { A.is_empty aggregate.now ≡ false }
+    ensures { IfOk result (λ point. (added : List ℤ) → A.stands aggregate.now added
+        → point ≡ record {
+          set = Some set;
+          value = value_of (A.aggregation aggregate.now) added;
+        }) }
+{
+    let value = aggregate.read(alloc)?;
+    let set = Some(set);
+    Ok(Point { set, value })
+}
+
 // Whether a value fits the aggregate of a rank.
+#[inline(always)]
 fn fits_at<A: Aggregate>(aggregates: &[A], rank: usize, value: i64) -> bool
     requires { rank < length aggregates.now }
     ensures { JudgesAt A.Aggregate aggregates.now rank value result }
@@ -166,6 +171,7 @@ fn fits_at<A: Aggregate>(aggregates: &[A], rank: usize, value: i64) -> bool
 }
 
 // Adds a value to the aggregate of a rank, where it fits.
+#[inline(always)]
 fn add_at<A: Aggregate>(aggregates: &mut [A], rank: usize, value: i64)
     requires { JudgesAt A.Aggregate aggregates.old rank value true }
     ensures { AddsAt A.Aggregate aggregates.old aggregates.new rank value }

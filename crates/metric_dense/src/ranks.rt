@@ -1,14 +1,14 @@
 //! Ranks by a table of weights.
-ghost use Rattle.std.specs.Prelude.{◌≡◌, ◌<◌, true, IfOk};
+ghost use Rattle.std.specs.Prelude.{◌≡◌, ◌<◌, ◌+◌, ℕ, true, IfOk};
 ghost use Rattle.metric_facts.specs.Facts.{is_full_set};
 ghost use Rattle.metric_facts.specs.Products.{product_of};
 ghost use Rattle.metric_facts.specs.Ranks.{rank as rank_of};
 ghost use Rattle.metric_dense.specs.Ranks.{series_of, IsRanked};
 
-use crate::weights::{fill_offsets, fill_weights, sets_of, unrank_into, weighted};
+use crate::weights::{fill_weights, sets_of, step, unrank_into, weighted};
 use metric_base::{Few, Items, Shared};
 use metric_contents::SetKey;
-use metric_facts::KeyFacts;
+use metric_facts::{KeyFacts, fill_least};
 use std::alloc::{AllocError, Global};
 use std::marker::Model;
 
@@ -46,14 +46,14 @@ impl Ranks {
     {
         let own = copied(alloc, keys)?;
         let mut weights = [0u32; 8];
-        let mut offsets = [0u16; 8];
+        let mut least = [0u16; 8];
         fill_weights(kept.get().as_slice(), keys, &mut weights);
-        fill_offsets(keys, &mut offsets);
+        fill_least(keys, &mut least);
         Ok(Ranks {
             kept,
             keys: own,
             weights,
-            base: weighted(&weights, &offsets),
+            base: weighted(&weights, &least),
         })
     }
 
@@ -66,6 +66,7 @@ impl Ranks {
     }
 
     /// The rank of a full set. It allocates no memory and has no branch for a key.
+    #[inline(always)]
     pub(crate) fn rank(&self, set: &SetKey) -> u64
         requires { is_full_set self.now.keys set.now ≡ true }
         ensures { result ≡ rank_of self.now.kept self.now.keys set.now }
@@ -73,20 +74,31 @@ impl Ranks {
         weighted(&self.weights, set) - self.base
     }
 
-    /// The series of a rank.
-    pub(crate) fn series(&self, rank: usize) -> SetKey
-        requires { rank < product_of self.now.kept self.now.keys }
-        ensures { result ≡ series_of self.now.kept self.now.keys rank }
+    /// The series of rank 0.
+    pub(crate) fn first(&self) -> SetKey
+        ensures { result ≡ series_of self.now.kept self.now.keys 0 }
     {
         let mut set = [0; 8];
         unrank_into(
             self.kept.get().as_slice(),
             self.keys.as_slice(),
             &self.weights,
-            rank as u64,
+            0,
             &mut set,
         );
         set
+    }
+
+    /// Makes the series of a rank that of the next rank, where there is one. It divides nothing, and mostly looks at the
+    /// last key alone.
+    #[inline(always)]
+    pub(crate) fn step(&self, set: &mut SetKey)
+        ensures { (r : ℕ) → r + 1 < product_of self.now.kept self.now.keys
+            → set.old ≡ series_of self.now.kept self.now.keys r
+            → set.new ≡ series_of self.now.kept self.now.keys (r + 1) }
+    {
+        let keys = self.keys.as_slice();
+        step(self.kept.get().as_slice(), keys, &mut set[..keys.len()]);
     }
 }
 

@@ -2,11 +2,13 @@
 ghost use Rattle.std.specs.Prelude.{◌≡◌, ◌<◌, ◌≤◌, ◌-◌, ◌^◌, length, min, replicate};
 ghost use Rattle.metric_facts.specs.Products.{key_choices, product_of, radix as radix_of};
 ghost use Rattle.metric_dense.specs.Ranks.{entry_of as entry_of_digit, unrank};
-ghost use Rattle.metric_dense.specs.Weights.{offsets_of, weighted as weighted_sum, weights_of};
+ghost use Rattle.metric_dense.specs.Steps.{entry_after, is_last, stepped};
+ghost use Rattle.metric_dense.specs.Weights.{weighted as weighted_sum, weights_of};
 
 use metric_facts::KeyFacts;
 
 // What a list of entries weighs: the sum of eight products.
+#[inline(always)]
 pub(crate) fn weighted(weights: &[u32; 8], entries: &[u16; 8]) -> u64
     ensures { result ≡ weighted_sum 8 weights.now entries.now }
 {
@@ -68,24 +70,6 @@ pub(crate) fn fill_weights(kept: &[bool], keys: &[KeyFacts], weights: &mut [u32]
     fill_weights(kept, keys, rest);
 }
 
-// Writes the least entry at each place.
-pub(crate) fn fill_offsets(keys: &[KeyFacts], offsets: &mut [u16])
-    requires few { length keys.now ≤ length offsets.old }
-    requires empty { offsets.old ≡ replicate (length offsets.old) 0 }
-    ensures { offsets.new ≡ offsets_of (length offsets.old) keys.now }
-{
-    let Some((key, keys)) = keys.split_first() else {
-        return;
-    };
-    let Some((first, rest)) = offsets.split_first_mut() else {
-        return;
-    };
-    if !key.optional {
-        *first = 1;
-    }
-    fill_offsets(keys, rest);
-}
-
 // The entry of a digit.
 fn entry(key: &KeyFacts, digit: u64) -> u16
     requires { digit < key_choices key.now }
@@ -133,4 +117,48 @@ pub(crate) fn unrank_into(
     let weight = u64::from(*weight);
     *first = entry(key, rank / weight);
     unrank_into(kept, keys, weights, rank % weight, rest);
+}
+
+// Writes the set after a set of ranks; after the last one the first.
+pub(crate) fn step(kept: &[bool], keys: &[KeyFacts], set: &mut [u16])
+    requires flags { length kept.now ≡ length keys.now }
+    requires places { length set.old ≡ length keys.now }
+    ensures { set.new ≡ stepped kept.now keys.now set.old }
+{
+    let Some((flag, kept)) = kept.split_last() else {
+        return;
+    };
+    let Some((key, keys)) = keys.split_last() else {
+        return;
+    };
+    let Some((last, rest)) = set.split_last_mut() else {
+        return;
+    };
+    let is_end = is_last(*flag, key, *last);
+    *last = entry_after(*flag, key, *last);
+    if is_end {
+        step(kept, keys, rest);
+    }
+}
+
+// Whether an entry is the last one of a key in sets of ranks.
+#[inline(always)]
+fn is_last(kept: bool, key: &KeyFacts, entry: u16) -> bool
+    ensures { result ≡ is_last kept key.now entry }
+{
+    !kept || entry >= key.values
+}
+
+// The entry after it; after the last one the first.
+#[inline(always)]
+fn entry_after(kept: bool, key: &KeyFacts, entry: u16) -> u16
+    ensures { result ≡ entry_after kept key.now entry }
+{
+    if !kept {
+        entry
+    } else if entry < key.values {
+        entry + 1
+    } else {
+        u16::from(!key.optional)
+    }
 }

@@ -2,3 +2,4 @@ pub mod FactsLaws
 pub mod FlatLaws
 pub mod FullSets
 pub mod WriteLaws
+pub mod RangeLaws

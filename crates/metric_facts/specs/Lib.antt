@@ -1,3 +1,4 @@
+pub mod EntryRanges
 pub mod Facts
 pub mod Flat
 pub mod FullSetLaws

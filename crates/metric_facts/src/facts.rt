@@ -1,11 +1,13 @@
 //! What the run of an instrument depends on.
 ghost use Rattle.std.specs.Prelude.{◌≡◌, ◌↔◌, IfOk, IsTrue, false, slice_index_or};
-ghost use Rattle.metric_facts.specs.Facts.{is_by_product};
+ghost use Rattle.metric_facts.specs.Facts.{is_by_product, is_full_set};
 ghost use Rattle.metric_facts.specs.Flat.{flat_facts};
 
+use crate::entry_ranges::{are_within, fill_least, fill_most};
 use crate::flat::flat_facts;
 use metric_base::{Copied, Items, Shared};
 use metric_combinations::Combinations;
+use metric_contents::SetKey;
 use metric_views::Stream;
 use std::alloc::{AllocError, Global};
 use std::marker::Model;
@@ -77,36 +79,68 @@ impl Drop for FactsFields {
     }
 }
 
-// Fields with their bytes beside them.
+// Fields, with their bytes and the ranges of a full set's entries beside them.
 #[derive(Drop)]
 struct FlatFields {
     fields: FactsFields,
     bytes: Vec<u8>,
+    least: [u16; 8],
+    most: [u16; 8],
+    // Whether a set key has a place for each key.
+    are_few: bool,
 }
 
 impl Model for FlatFields {
     ghost use Rattle.std.specs.Prelude.{◌≡◌};
     ghost use Rattle.metric_facts.specs.declared.facts.FactsFields.{FactsFields};
+    ghost use Rattle.metric_facts.specs.EntryRanges.{AreRanges};
     ghost use Rattle.metric_facts.specs.Flat.{flat_facts};
 
     ghost Value = { FactsFields };
 
     ghost view = { λ f. f.fields };
 
-    ghost invariant = { λ f. f.bytes.items ≡ flat_facts f.fields };
+    ghost invariant = { λ f. (f.bytes.items ≡ flat_facts f.fields)
+        × AreRanges f.fields.keys f.least f.most f.are_few };
 }
 
 impl FlatFields {
+    fn of(fields: FactsFields, bytes: Vec<u8>) -> FlatFields
+        requires { bytes.items ≡ flat_facts fields }
+        ensures { result ≡ fields }
+    {
+        let keys = fields.keys.as_slice();
+        let (mut least, mut most) = ([0u16; 8], [0u16; 8]);
+        fill_least(keys, &mut least);
+        fill_most(keys, &mut most);
+        let are_few = keys.len() <= 8;
+        FlatFields {
+            fields,
+            bytes,
+            least,
+            most,
+            are_few,
+        }
+    }
+
     fn as_bytes(&self) -> &[u8]
         ensures { result.now ≡ flat_facts self.now }
     {
         self.bytes.as_slice()
     }
+
+    #[inline(always)]
+    #[tactic(auto, using(crate::proofs::RangeLaws::takes_full))]
+    fn takes(&self, set: &SetKey) -> bool
+        ensures { result ≡ is_full_set self.now.keys set.now }
+    {
+        self.are_few & are_within(&self.least, &self.most, set)
+    }
 }
 
 /// What the run of one instrument depends on. Beside the fields stand their bytes, made once, so that facts are
-/// compared without a walk through lists and texts. Both are stored once, however many copies there are. A clause
-/// sees the fields.
+/// compared without a walk through lists and texts, and the range of each entry of a full set. All are stored once,
+/// however many copies there are. A clause sees the fields.
 #[derive(Drop)]
 pub struct Facts {
     shared: Shared<FlatFields>,
@@ -126,8 +160,17 @@ impl Facts {
         ensures { IfOk result (λ facts. facts ≡ fields) }
     {
         let bytes = flat_facts(alloc, &fields)?;
-        let shared = Shared::new(alloc, FlatFields { fields, bytes })?;
+        let shared = Shared::new(alloc, FlatFields::of(fields, bytes))?;
         Ok(Facts { shared })
+    }
+
+    /// Whether the entries of a set key are a full set of the keys: a declared value for each, or 0 where it may be left
+    /// out, and 0 after them.
+    #[inline(always)]
+    pub fn takes(&self, set: &SetKey) -> bool
+        ensures { result ≡ is_full_set self.now.keys set.now }
+    {
+        self.shared.get().takes(set)
     }
 }
 

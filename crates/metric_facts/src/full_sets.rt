@@ -7,8 +7,8 @@ use crate::facts::{FactsFields, KeyFacts};
 use metric_combinations::permits;
 use metric_contents::SetKey;
 
-/// Whether the entries are a full set of the keys: one for each key, and 0 after them.
-pub fn is_full_set(keys: &[KeyFacts], entries: &[u16]) -> bool
+// Whether the entries are a full set of the keys: one for each key, and 0 after them.
+fn is_full_set(keys: &[KeyFacts], entries: &[u16]) -> bool
     ensures { result ≡ is_full_set keys.now entries.now }
 {
     match (keys.split_first(), entries.split_first()) {

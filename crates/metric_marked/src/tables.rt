@@ -117,6 +117,7 @@ fn put_all(tables: &mut [StreamTable], places: &[Place], entry: &Entry)
 }
 
 // Adds a recording to a table.
+#[inline(always)]
 fn add_to(stream: &mut StreamTable, entry: &Entry) -> Result<(), SeriesFault>
     requires { stream_series.takes stream.old.table entry.now.set }
     ensures { AddsTo entry.now stream.old stream.new result }

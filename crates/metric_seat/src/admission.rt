@@ -6,11 +6,12 @@ ghost use Rattle.metric_seat.specs.Recordings.{declared_set};
 
 use metric_combinations::permits;
 use metric_contents::{Attr, Refusal, SetKey};
-use metric_facts::{Facts, is_full_set};
+use metric_facts::Facts;
 use metric_plan::Plan;
 
 /// The set key of a recording that the plan declares, or the first refusal: `UnknownInstrument`, those of the
 /// attributes in their order, the last of them `Combination`, and `ValueRange`.
+#[inline(always)]
 pub(crate) fn declared_set(
     plan: &Plan,
     instrument: u32,
@@ -32,6 +33,7 @@ pub(crate) fn declared_set(
 
 /// The same of a set key that a caller brings back: `UnknownInstrument`, `UnknownValue` where it is not one of the
 /// instrument's, `Combination` where it is none of its allowed combinations, `ValueRange`.
+#[inline(always)]
 pub(crate) fn declared_key(
     plan: &Plan,
     instrument: u32,
@@ -47,10 +49,11 @@ pub(crate) fn declared_key(
 }
 
 // The set key of a recording that an instrument with these facts declares, or the first refusal.
+#[inline(always)]
 pub(crate) fn key_of(facts: &Facts, set: SetKey, value: &i64) -> Result<SetKey, Refusal>
     ensures { result ≡ key_of facts.now set value.now }
 {
-    if !is_full_set(facts.keys.as_slice(), &set) {
+    if !facts.takes(&set) {
         return Err(Refusal::UnknownValue);
     }
     if !permits(&facts.allowed, &set) {

@@ -419,6 +419,7 @@ impl RecorderSeat {
 
     /// Whether the seat is of this run of the plan, made for as many instruments, and of one of its
     /// recorders.
+    #[inline(always)]
     pub fn is_of(&self, plan: &Plan, run: RunId) -> bool
         ensures { result ≡ is_recorder_of (provider_of plan.now run) self.now }
     {
@@ -447,6 +448,7 @@ impl RecorderSeat {
     /// no recorder of its number; `UnknownInstrument`, those of the attributes in their order, the last of
     /// them `Combination` where they are none of the instrument's allowed combinations, and `ValueRange`. Allocates no
     /// memory.
+    #[inline(always)]
     pub fn admit(
         &self,
         plan: &Plan,
@@ -475,6 +477,7 @@ impl RecorderSeat {
     /// The same of a set key that a caller brings back: `Stranger` and `UnknownInstrument` as of
     /// [`RecorderSeat::admit`], `UnknownValue` where the set key is not one of the instrument's, `Combination` where it
     /// is none of its allowed combinations, and `ValueRange`.
+    #[inline(always)]
     pub fn admit_key(
         &self,
         plan: &Plan,
@@ -499,6 +502,7 @@ impl RecorderSeat {
 
     /// Whether the seat may make each of these recordings, or the first refusal of [`RecorderSeat::admit_key`], with
     /// its place. An empty list is accepted of any seat.
+    #[inline(always)]
     pub fn admit_each(
         &self,
         plan: &Plan,

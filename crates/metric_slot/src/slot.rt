@@ -93,6 +93,7 @@ impl<B: Book> Slot<B> {
     ///
     /// `is_own` is what [`Slot::is_of`] answers: facts are compared once for all recordings that are made under one
     /// lock.
+    #[inline(always)]
     pub fn record(
         &mut self,
         is_own: bool,
@@ -128,6 +129,7 @@ impl<B: Book> Slot<B> {
     }
 
     /// Whether the cell has these facts. No call changes them.
+    #[inline(always)]
     pub fn is_of(&self, facts: &Facts) -> bool
         ensures { IsTrue result ↔ (self.now.facts ≡ facts.now) }
     {
@@ -262,6 +264,7 @@ impl<B: Book> Slot<B> {
 }
 
 // Makes a recording for a recorder, where the numbers are its own. There is then room for telling of it.
+#[inline(always)]
 fn record_own<B: Book>(
     cell: &mut Cell<B>,
     facts: &Facts,
@@ -295,6 +298,7 @@ fn record_own<B: Book>(
 }
 
 // Tells a recorder of its recording, where it was accepted.
+#[inline(always)]
 fn tell(told: &mut Told, facts: &Facts, value: &i64, answer: &Result<(), Refusal>)
     requires { OnOk answer.now (HasRoom told.old facts.now.lo value.now) }
     ensures ok { OnOk answer.now (told.new ≡ told_more told.old facts.now.lo value.now) }
@@ -306,6 +310,7 @@ fn tell(told: &mut Told, facts: &Facts, value: &i64, answer: &Result<(), Refusal
 }
 
 // Whether the cell, which has these facts, has as many of the recorder's recordings as it was told of.
+#[inline(always)]
 fn is_own_recorder<B: Book>(cell: &Cell<B>, facts: &Facts, told: &Told, recorder: u32) -> bool
     requires facts { cell.now.facts ≡ facts.now }
     requires range { facts.now.lo ≤ℤ facts.now.hi }

@@ -17,6 +17,7 @@ pub struct Told {
 
 impl Told {
     // Whether so many values of the instrument can be so far above its least.
+    #[inline(always)]
     pub fn is_within(&self, facts: &Facts) -> bool
         requires { facts.now.lo ≤ℤ facts.now.hi }
         ensures { let most = amount_with self.now.count facts.now.lo facts.now.hi in
@@ -26,6 +27,7 @@ impl Told {
     }
 
     // Tells of one recording more.
+    #[inline(always)]
     pub fn add(&mut self, facts: &Facts, value: &i64)
         requires { HasRoom self.old facts.now.lo value.now }
         ensures { self.new ≡ told_more self.old facts.now.lo value.now }
