@@ -1,12 +1,15 @@
 //! The attributes of a point.
-ghost use Rattle.std.specs.Prelude.{◌≡◌, ◌++◌, IfOk, OnOk, map};
+ghost use Rattle.std.specs.Prelude.{◌≡◌, ◌++◌, OnOk, map};
 ghost use Rattle.std.specs.Option.{option_copied, option_map};
+ghost use Rattle.metric_base.specs.Steps.{GivesBy};
 ghost use Rattle.metric_contents.specs.Attributes.{given_by};
 ghost use Rattle.metric_lines.specs.Keys.{attribute_of, attributes_of, value_at};
-ghost use Rattle.metric_export.specs.Attributes.{declared_keys, series_attributes};
+ghost use Rattle.metric_export.specs.Attributes.{declared_keys, point_attributes, series_attributes};
 
+use crate::belonging::own_plan;
+use crate::fault::ExportFault;
 use metric_contents::{Attr, Key, SetKey, Values};
-use metric_history::Point;
+use metric_history::{Batch, Point};
 use metric_names::{AttrValue, ValueRef};
 use metric_plan::Plan;
 use metric_views::Stream;
@@ -15,19 +18,25 @@ use std::alloc::{AllocError, Global};
 /// The key of the overflow point's only attribute (Metrics SDK, overflow attribute).
 const OVERFLOW_KEY: &str = "otel.metric.overflow";
 
-/// The attributes of a point of a stream: of the keys that the stream's instrument declares, in declared order, those
-/// that the stream keeps and that are present, each with its value. The overflow point has the one attribute
-/// `otel.metric.overflow` with the value true. Fails only when out of memory.
+/// The attributes of a point of a batch, in a stream of its plan: of the keys that the stream's instrument declares, in
+/// declared order, those that the stream keeps and that are present, each with its value. The overflow point has the one
+/// attribute `otel.metric.overflow` with the value true.
+///
+/// # Errors
+///
+/// [`ExportFault::OtherPlan`] exactly where the batch was not collected of this plan or one of the same texts, and
+/// `Memory`.
 pub fn attributes<'a>(
     alloc: Global,
     plan: &'a Plan,
+    batch: &Batch,
     stream: &Stream,
     point: &Point,
-) -> Result<Vec<Attr<'a>>, AllocError>
-    ensures { IfOk result (λ attributes. map given_by attributes.items
-        ≡ series_attributes (declared_keys plan.entry.now stream.now)
-        stream.now.kept point.now.set) }
+) -> Result<Vec<Attr<'a>>, ExportFault>
+    ensures { GivesBy (λ attributes. map given_by attributes.items) ExportFault.Memory result
+        (point_attributes plan.entry.now batch.now stream.now point.now.set) }
 {
+    own_plan(plan, batch)?;
     let keys = declared_keys(plan, stream);
     let kept = stream.kept.get().as_slice();
     let mut attributes = Vec::new(alloc);

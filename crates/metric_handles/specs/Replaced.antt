@@ -1,7 +1,7 @@
 -- Values that a catalogue does not declare, replaced.
-use Rattle.std.specs.Prelude.{ℕ, ◌+◌, ℤ, Bool, min, if◌then◌else◌, int_le, List, find, Result, Ok}
-use Rattle.std.specs.Prelude.{Err, is_some, slice_get}
-use Rattle.std.specs.Ordering.{int_eq}
+use Rattle.std.specs.Prelude.{ℕ, ◌+◌, ◌==◌, ℤ, Bool, min, if◌then◌else◌, int_le, List, find, Result}
+use Rattle.std.specs.Prelude.{Ok, Err, is_some, slice_get}
+use Rattle.std.specs.Option.{option_map_or}
 use Rattle.metric_base.specs.Steps.{◌>>=◌, require_some}
 use Rattle.metric_names.specs.declared.value.AttrValue.{AttrValue}
 use Rattle.metric_names.specs.declared.value.ValueRef.{ValueRef}
@@ -13,7 +13,7 @@ use Rattle.metric_contents.specs.declared.refusal.Refusal.{Refusal}
 use Rattle.metric_contents.specs.declared.refusal.Refusal.TheVariants.{UnknownInstrument, UnknownKey}
 use Rattle.metric_contents.specs.KeyNames.{is_key}
 use Rattle.metric_contents.specs.Places.{place}
-use Rattle.metric_plan.specs.Plans.{PlanValue}
+use Rattle.metric_plan.specs.Plans.{PlanValue, print_of}
 use Rattle.metric_handles.specs.Bounds.{HandleValue, number_in}
 
 -- one more, up to the greatest number of 64 bits
@@ -29,7 +29,7 @@ abbrev pub key_at : List Instrument → ℕ → List ℕ → Result Key Refusal
 key_at instruments number name =
     instrument_at instruments number >>= λ i. require_some (find (is_key name) i.keys) UnknownKey
 
--- # known value, nearest number (profile) [is_known, known_or, nearest_at, counted_after]
+-- # known value, nearest number (profile) [is_known, known_or, clamped_in, counted_after]
 -- The instrument declares the value for the key; the number of its range that is next to a value;
 -- or the instrument or the key that is not declared.
 abbrev pub is_known : Key → AttrValue → Bool
@@ -55,11 +55,6 @@ abbrev pub keeps_value : List Instrument → ℕ → List ℕ → AttrValue → 
 keeps_value instruments number name value =
     key_at instruments number name >>= λ key. Ok (is_known key value)
 
--- whether the value is in the range of the instrument of a number
-abbrev pub keeps_amount : List Instrument → ℕ → ℤ → Result Bool Refusal
-keeps_amount instruments number value =
-    instrument_at instruments number >>= λ i. Ok (int_eq (nearest i value) value)
-
 -- the attribute, where a key of its name on the instrument of a number declares its value, else
 -- with another value
 abbrev pub known_or : List Instrument → ℕ → Attr → ValueRef → Result Attr Refusal
@@ -67,10 +62,11 @@ known_or instruments number attr other =
     keeps_value instruments number attr.key.now (value_of attr.value) >>= λ kept.
     Ok (if kept then attr else record attr { value = other })
 
--- the number of the range of the instrument of a number that is next to a value
-abbrev pub nearest_at : List Instrument → ℕ → ℤ → Result ℤ Refusal
+-- the number of the range of the instrument of a number that is next to a value, or the value itself
+-- where there is none
+abbrev pub nearest_at : List Instrument → ℕ → ℤ → ℤ
 nearest_at instruments number value =
-    instrument_at instruments number >>= λ i. Ok (nearest i value)
+    option_map_or (λ (i : Instrument). nearest i value) (slice_get instruments number) value
 
 -- ---- the same by a handle, which is a stranger to another plan
 
@@ -79,15 +75,14 @@ keeps_value_in plan handle name value =
     number_in plan handle >>= λ number.
     keeps_value plan.facts.contents.instruments number name value
 
-abbrev pub keeps_amount_in : PlanValue → HandleValue → ℤ → Result Bool Refusal
-keeps_amount_in plan handle value =
-    number_in plan handle >>= λ number. keeps_amount plan.facts.contents.instruments number value
-
 abbrev pub known_or_in : PlanValue → HandleValue → Attr → ValueRef → Result Attr Refusal
 known_or_in plan handle attr other =
     number_in plan handle >>= λ number.
     known_or plan.facts.contents.instruments number attr other
 
-abbrev pub nearest_in : PlanValue → HandleValue → ℤ → Result ℤ Refusal
-nearest_in plan handle value =
-    number_in plan handle >>= λ number. nearest_at plan.facts.contents.instruments number value
+-- the number of the range of the handle's instrument that is next to a value, or the value itself
+-- where the plan has no such instrument
+abbrev pub clamped_in : PlanValue → HandleValue → ℤ → ℤ
+clamped_in plan handle value =
+    if handle.plan == print_of plan
+    then nearest_at plan.facts.contents.instruments handle.number value else value

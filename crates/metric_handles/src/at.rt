@@ -1,8 +1,9 @@
 //! A seat with what it records on.
-ghost use Rattle.std.specs.Prelude.{◌≡◌, map};
+ghost use Rattle.std.specs.Prelude.{◌≡◌, OnErr, OnOk, map};
+ghost use Rattle.std.specs.Ordering.{int_eq};
 ghost use Rattle.metric_contents.specs.Attributes.{given_by};
 ghost use Rattle.metric_handles.specs.Calls.{MakesByBound, MakesByHandle, MakesByList, left_of};
-ghost use Rattle.metric_handles.specs.Replaced.{counted_after, keeps_amount_in, keeps_value_in, known_or_in, nearest_in};
+ghost use Rattle.metric_handles.specs.Replaced.{clamped_in, counted_after, counted_unless, keeps_value_in, known_or_in};
 ghost use Rattle.metric_names.specs.Values.{value_of};
 
 use crate::bound::Bound;
@@ -82,6 +83,34 @@ impl<R: Wait, S: Seat, B: Book, G: Gate> At<'_, R, S, B, G> {
         handle.add(self.rt, self.provider, self.seat, attrs, value)
     }
 
+    /// Adds a value as [`At::add`] does, or the end of the instrument's range that is next to it where it is out of
+    /// range: once it is recorded, the count of replaced amounts rises by one. The range is that of the instrument that
+    /// records it, so no amount is clamped by one and recorded by another.
+    pub fn add_clamped<K: Adds>(
+        &mut self,
+        handle: &Handle<K>,
+        replaced: &mut Replaced,
+        attrs: &[Attr<'_>],
+        value: i64,
+    ) -> Result<(), Refusal>
+        ensures same { self.new.seat.ghost_name ≡ self.old.seat.ghost_name }
+        ensures provider { self.new.provider.now ≡ self.old.provider.now }
+        ensures made { let p = self.old.provider.now in let given = map given_by attrs.now in
+            let amount = clamped_in p.plan handle.now value in
+            MakesByHandle B.KEEPS_ENTRIES B.spares_memory S.seat S.notes S.records p handle.now
+            given amount self.old.seat.now self.new.seat.now result }
+        ensures counted { let plan = self.old.provider.now.plan in
+            let kept = int_eq (clamped_in plan handle.now value) value in
+            OnOk result (replaced.new
+            ≡ record replaced.old { amounts = counted_unless kept replaced.old.amounts }) }
+        ensures uncounted { OnErr result (replaced.new ≡ replaced.old) }
+    {
+        let amount = handle.clamped(self.provider.plan(), value);
+        handle.add(self.rt, self.provider, self.seat, attrs, amount)?;
+        replaced.count_amount(amount, value);
+        Ok(())
+    }
+
     /// Records a value with these attributes (Metrics API, Record): `Handle::record`, with its refusals.
     #[inline(always)]
     pub fn record<K: Records>(
@@ -97,6 +126,34 @@ impl<R: Wait, S: Seat, B: Book, G: Gate> At<'_, R, S, B, G> {
             given value self.old.seat.now self.new.seat.now result }
     {
         handle.record(self.rt, self.provider, self.seat, attrs, value)
+    }
+
+    /// Records a value as [`At::record`] does, or the end of the instrument's range that is next to it where it is out of
+    /// range: once it is recorded, the count of replaced amounts rises by one. The range is that of the instrument that
+    /// records it, so no amount is clamped by one and recorded by another.
+    pub fn record_clamped<K: Records>(
+        &mut self,
+        handle: &Handle<K>,
+        replaced: &mut Replaced,
+        attrs: &[Attr<'_>],
+        value: i64,
+    ) -> Result<(), Refusal>
+        ensures same { self.new.seat.ghost_name ≡ self.old.seat.ghost_name }
+        ensures provider { self.new.provider.now ≡ self.old.provider.now }
+        ensures made { let p = self.old.provider.now in let given = map given_by attrs.now in
+            let amount = clamped_in p.plan handle.now value in
+            MakesByHandle B.KEEPS_ENTRIES B.spares_memory S.seat S.notes S.records p handle.now
+            given amount self.old.seat.now self.new.seat.now result }
+        ensures counted { let plan = self.old.provider.now.plan in
+            let kept = int_eq (clamped_in plan handle.now value) value in
+            OnOk result (replaced.new
+            ≡ record replaced.old { amounts = counted_unless kept replaced.old.amounts }) }
+        ensures uncounted { OnErr result (replaced.new ≡ replaced.old) }
+    {
+        let amount = handle.clamped(self.provider.plan(), value);
+        handle.record(self.rt, self.provider, self.seat, attrs, amount)?;
+        replaced.count_amount(amount, value);
+        Ok(())
     }
 
     /// Adds a value to the series of bound attributes (Metrics API, Add): `Bound::add`, with its refusals.
@@ -169,22 +226,6 @@ impl<R, S, B: Book, G: Gate> At<'_, R, S, B, G> {
             replaced.new ≡ record replaced.old { values = after } }
     {
         handle.known_or(self.provider.plan(), replaced, attr, other)
-    }
-
-    /// The value, where it is in the instrument's range; else the end of the range that is next to it, and the count
-    /// of replaced amounts rises by one: `Handle::clamped`, with its refusals.
-    pub fn clamped<K>(
-        &self,
-        handle: &Handle<K>,
-        replaced: &mut Replaced,
-        value: i64,
-    ) -> Result<i64, Refusal>
-        ensures value { result ≡ nearest_in self.now.provider.now.plan handle.now value }
-        ensures counted { let kept = keeps_amount_in self.now.provider.now.plan handle.now value in
-            let after = counted_after kept replaced.old.amounts in
-            replaced.new ≡ record replaced.old { amounts = after } }
-    {
-        handle.clamped(self.provider.plan(), replaced, value)
     }
 
     /// The seat.

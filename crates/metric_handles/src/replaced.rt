@@ -5,15 +5,15 @@ ghost use Rattle.std.specs.Ordering.{int_eq};
 ghost use Rattle.std.specs.Result.{result_map_both};
 ghost use Rattle.metric_names.specs.Values.{value_of};
 ghost use Rattle.metric_contents.specs.KeyNames.{is_key};
-ghost use Rattle.metric_handles.specs.Replaced.{counted_after, counted_unless, instrument_at, is_known, keeps_amount_in, keeps_value_in, key_at, known_or_in, nearest, nearest_in};
+ghost use Rattle.metric_handles.specs.Replaced.{clamped_in, counted_after, counted_unless, instrument_at, is_known, keeps_value_in, key_at, known_or_in, nearest, nearest_at};
 
 use crate::handle::Handle;
 use metric_contents::{Attr, Instrument, Key, Refusal};
 use metric_names::ValueRef;
 use metric_plan::Plan;
 
-/// How often values were replaced before they were recorded: what comes in from outside is told by a count, and no
-/// recording is lost for it. The counts rise by [`Handle::known_or`] and [`Handle::clamped`], and stop at the greatest
+/// How often values were replaced: what comes in from outside is told by a count, and no recording is lost for it. The
+/// counts rise by [`Handle::known_or`], and by `At::add_clamped` and `At::record_clamped`, and stop at the greatest
 /// number of 64 bits.
 #[derive(Clone, Copy, Debug, PartialEq, Eq, Drop)]
 pub struct Replaced {
@@ -48,17 +48,14 @@ impl Replaced {
         other
     }
 
-    // The value, where it is in the instrument's range; else the end of the range that is next to it, which is counted.
-    fn clamped(&mut self, instrument: &Instrument, value: i64) -> i64
-        ensures value { result ≡ nearest instrument.now value }
-        ensures counted { let kept = int_eq (nearest instrument.now value) value in
+    // Counts an amount that was recorded in place of another one.
+    pub(crate) fn count_amount(&mut self, amount: i64, value: i64)
+        ensures { let kept = int_eq amount value in
             self.new ≡ record self.old { amounts = counted_unless kept self.old.amounts } }
     {
-        let nearest = nearest(instrument, &value);
-        if nearest != value {
+        if amount != value {
             self.amounts = self.amounts.saturating_add(1);
         }
-        nearest
     }
 }
 
@@ -92,22 +89,15 @@ impl<K> Handle<K> {
         })
     }
 
-    /// The value, where it is in the instrument's range; else the end of the range that is next to it, and the count of
-    /// replaced amounts rises by one.
-    ///
-    /// # Errors
-    ///
-    /// `Stranger` where the handle is of another plan, else `UnknownInstrument` where the plan has no instrument of the
-    /// handle's number. Nothing is counted then.
-    pub fn clamped(&self, plan: &Plan, replaced: &mut Replaced, value: i64) -> Result<i64, Refusal>
-        ensures value { result ≡ nearest_in plan.now self.now value }
-        ensures counted { let kept = keeps_amount_in plan.now self.now value in
-            replaced.new
-            ≡ record replaced.old { amounts = counted_after kept replaced.old.amounts } }
+    // The number of the instrument's range that is next to a value. Where the plan has no such instrument it is the value,
+    // which no recording takes there.
+    pub(crate) fn clamped(&self, plan: &Plan, value: i64) -> i64
+        ensures { result ≡ clamped_in plan.now self.now value }
     {
-        let number = self.number_in(plan)?;
-        let instrument = instrument_at(plan.catalogue().instruments(), number)?;
-        Ok(replaced.clamped(instrument, value))
+        if self.plan() != plan.fingerprint() {
+            return value;
+        }
+        nearest_at(plan.catalogue().instruments(), self.number(), value)
     }
 }
 
@@ -138,15 +128,25 @@ fn key_named<'a>(keys: &'a [Key], name: &str) -> Option<&'a Key>
     keys.iter().find(|key| key.name.as_str() == name)
 }
 
-// The number of the instrument's range that is next to a value.
-fn nearest(instrument: &Instrument, value: &i64) -> i64
-    ensures { result ≡ nearest instrument.now value.now }
+// The number of the range of the instrument of a number that is next to a value, where there is one.
+fn nearest_at(instruments: &[Instrument], number: u32, value: i64) -> i64
+    ensures { result ≡ nearest_at instruments.now number value }
 {
-    if *value < instrument.lo {
+    match instruments.get(number as usize) {
+        Some(instrument) => nearest(instrument, value),
+        None => value,
+    }
+}
+
+// The number of the instrument's range that is next to a value.
+fn nearest(instrument: &Instrument, value: i64) -> i64
+    ensures { result ≡ nearest instrument.now value }
+{
+    if value < instrument.lo {
         instrument.lo
-    } else if instrument.hi < *value {
+    } else if instrument.hi < value {
         instrument.hi
     } else {
-        *value
+        value
     }
 }

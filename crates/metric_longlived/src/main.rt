@@ -8,15 +8,15 @@ mod ledger;
 use anyhow::{Result, ensure};
 use ledger::{Device, Ledger};
 use metric_sdk::{
-    AnySeat, Asking, Attr, Counter, Marked, MeterProvider, NextRun, NoGate, Outlet, Plan, Queued,
-    Recorder, Runs, Service, StopFlag, Totals, Work, counter, headrooms, live, now, open,
+    AnySeat, Asking, Attr, Counter, Marked, MeterProvider, NoGate, Outlet, Plan, Queued, Recorder,
+    Runs, Service, StopFlag, Totals, Work, counter, headrooms, live, now, open,
 };
 use std::alloc::Global;
 use std::sync::Wait;
 use std::thread::Threads;
 use std::time::Clock;
 
-// Each worker has a budget of 5 recordings in a run; 10 more are granted to whoever asks.
+// Each worker has a budget of 2 recordings in a run; 10 more are granted to whoever asks.
 const CATALOGUE: &str = "format = 2
 [[meter]]
 name = 'office'
@@ -28,10 +28,10 @@ spare = 10
 key = [{ name = 'kind', values = ['mail', 'print'] }]
 [[recorder]]
 name = 'first'
-budget = [{ instrument = 0, amount = 5 }]
+budget = [{ instrument = 0, amount = 2 }]
 [[recorder]]
 name = 'second'
-budget = [{ instrument = 0, amount = 5 }]
+budget = [{ instrument = 0, amount = 2 }]
 ";
 
 const CONFIG: &str = "format = 1
@@ -41,43 +41,24 @@ temporality = { counter = 'delta' }
 ";
 
 // What each worker does in a run.
-const JOBS: &[(&str, i64)] = &[
-    ("mail", 1),
-    ("mail", 2),
-    ("print", 9),
-    ("mail", 3),
-    ("print", 4),
-    ("mail", 5),
-    ("print", 6),
-    ("mail", 6),
-];
+const JOBS: [(&str, i64); 4] = [("mail", 1), ("print", 9), ("mail", 2), ("print", 6)];
 
-// What the device does not take the queue keeps.
-type Queue<'a> = Queued<Ledger<'a>>;
-
-// The provider, with the reader and its queue.
-type Office<'a> = Service<((), Outlet<Queue<'a>>), Marked, NoGate>;
-
-// The next run, and what the one before came to.
-type Next<'a> = NextRun<((), Outlet<Queue<'a>>), Marked, NoGate>;
+// The provider with its reader, whose queue keeps what the device does not take.
+type Office<'a> = Service<((), Outlet<Queued<Ledger<'a>>>), Marked, NoGate>;
 
 fn main(rt: HostRuntime) -> Result<()> {
-    let device = Device::new();
-    let queue = Queued::new(rt.alloc(), Ledger::new(&device), 1_000);
-    let (office, recorders) = opened(&rt, rt.alloc(), queue)?;
-    let next = live_on(&rt, office, recorders)?;
-    let mut recorded = sum_of(&next.totals);
-    println!(rt; "first run: {recorded}")?;
-    device.set_out(true);
-    let next = live_on(&rt, next.service, next.recorders)?;
-    recorded = recorded.saturating_add(sum_of(&next.totals));
-    let waits = !next.service.outlets().1.exporter().kept().is_empty();
-    println!(rt; "with the second run: {recorded}, some in the queue: {waits}")?;
-    device.set_out(false);
-    let (office, recorders) = live_once(&rt, next.service, next.recorders)?;
+    let (device, mut recorded) = (Device::new(), 0i128);
+    let (mut office, mut recorders) = opened(&rt, rt.alloc(), &device)?;
+    for is_out in [false, true, false] {
+        device.set_out(is_out);
+        (office, recorders) = live_once(&rt, office, recorders)?;
+        let next = office.roll_over(&rt, rt.alloc(), recorders, now(&rt)?)?;
+        (office, recorders) = (next.service, next.recorders);
+        recorded = recorded.saturating_add(sum_of(&next.totals));
+        let waits = !office.outlets().1.exporter().kept().is_empty();
+        println!(rt; "recorded: {recorded}, some waits in the queue: {waits}")?;
+    }
     let ended = office.end(&rt, rt.alloc(), recorders, now(&rt)?)?;
-    recorded = recorded.saturating_add(sum_of(&ended.totals));
-    println!(rt; "with the third run: {recorded}")?;
     tell_exported(&rt, ended.outlets.1.exporter(), recorded)
 }
 
@@ -85,25 +66,13 @@ fn main(rt: HostRuntime) -> Result<()> {
 fn opened<'a, R: Wait + Clock + Print>(
     rt: &R,
     alloc: Global,
-    queue: Queue<'a>,
+    device: &'a Device,
 ) -> Result<(Office<'a>, Vec<Recorder>)> {
-    let mut runs = Runs::new();
+    let (mut runs, queue) = (Runs::new(), Queued::new(alloc, Ledger::new(device), 1_000));
     let (provider, recorders, readers) = open(rt, alloc, CATALOGUE, CONFIG, now(rt)?, &mut runs)?;
     tell_headroom(rt, alloc, provider.plan())?;
     let office = Service::builder(provider, readers, runs).tell(alloc, "new", queue, 1)?;
     Ok((office.build()?, recorders))
-}
-
-// Tells what was exported. Fails where that is not all that was recorded, once.
-fn tell_exported<R: Print>(rt: &R, queue: &Queue<'_>, recorded: i128) -> Result<()> {
-    let (exported, gaps) = (queue.inner().sum(), queue.inner().gaps());
-    let (kept, lost) = (queue.kept().len(), queue.dropped());
-    println!(rt; "exported: {exported}, gaps {gaps}, kept {kept}, lost {lost}")?;
-    ensure!(
-        i128::from(exported) == recorded,
-        "not all was exported once"
-    );
-    Ok(())
 }
 
 // How many recordings the budgets and the spare allow in a run, and up to how many they could be raised.
@@ -115,40 +84,28 @@ fn tell_headroom<R: Print>(rt: &R, alloc: Global, plan: &Plan) -> Result<()> {
     Ok(())
 }
 
-// One run, and then the next one begins, also while the device is out: the queue keeps what it has.
-fn live_on<'a, R: Threads + Wait + Clock + Print + Sync + AllocGlobal>(
-    rt: &R,
-    office: Office<'a>,
-    recorders: Vec<Recorder>,
-) -> Result<Next<'a>> {
-    let (office, recorders) = live_once(rt, office, recorders)?;
-    Ok(office.roll_over(rt, rt.alloc(), recorders, now(rt)?)?)
-}
-
-// One run: the workers record, while the reader exports.
+// One run: the workers record, by seats that ask for 3 more where their budget ends, while the reader exports.
 fn live_once<'a, R: Threads + Wait + Clock + Print + Sync + AllocGlobal>(
     rt: &R,
     office: Office<'a>,
     recorders: Vec<Recorder>,
 ) -> Result<(Office<'a>, Vec<Recorder>)> {
-    let workers = asking(rt.alloc(), office.plan(), recorders)?;
     let pages = counter(office.plan(), "office", "pages", &["kind"])?;
-    let jobs = Jobs { pages };
-    let (office, workers) = live(rt, office, workers, &StopFlag::new(), &jobs);
-    tell_left(rt, office.provider(), &jobs.pages, &workers)?;
-    Ok((office, seats_of(rt.alloc(), workers)?))
-}
-
-// What was recorded in a run.
-fn sum_of(totals: &Totals) -> i128 {
-    match totals.instruments.as_slice() {
-        [pages] => pages.sum,
-        _ => 0,
+    let mut workers = Vec::with_capacity(rt.alloc(), recorders.len())?;
+    for seat in recorders {
+        let seat = Asking::new(rt.alloc(), office.plan(), seat, 3);
+        workers.push(seat.map_err(|(_, refused)| refused)?)?;
     }
+    let (office, workers) = live(rt, office, workers, &StopFlag::new(), &Jobs(pages));
+    tell_left(rt, office.provider(), &pages, &workers)?;
+    let mut seats = Vec::with_capacity(rt.alloc(), workers.len())?;
+    for worker in workers {
+        seats.push(worker.into_seat())?;
+    }
+    Ok((office, seats))
 }
 
-// What is left of a run: how many recordings the workers may still make, how many can still be granted, and how many
-// workers found too few of these.
+// What the workers may still record, what can still be granted, and how many workers found too little of it.
 fn tell_left<R: Wait + Print>(
     rt: &R,
     provider: &MeterProvider,
@@ -165,37 +122,34 @@ fn tell_left<R: Wait + Print>(
     Ok(())
 }
 
-// Seats that ask for three recordings where their budget ends.
-fn asking(alloc: Global, plan: &Plan, recorders: Vec<Recorder>) -> Result<Vec<Asking>> {
-    let mut workers = Vec::with_capacity(alloc, recorders.len())?;
-    for seat in recorders {
-        let seat = Asking::new(alloc, plan, seat, 3);
-        workers.push(seat.map_err(|(_, refused)| refused)?)?;
+// What was recorded in a run.
+fn sum_of(totals: &Totals) -> i128 {
+    match totals.instruments.as_slice() {
+        [pages] => pages.sum,
+        _ => 0,
     }
-    Ok(workers)
 }
 
-// The seats of the recorders.
-fn seats_of(alloc: Global, workers: Vec<Asking>) -> Result<Vec<Recorder>> {
-    let mut recorders = Vec::with_capacity(alloc, workers.len())?;
-    for worker in workers {
-        recorders.push(worker.into_seat())?;
-    }
-    Ok(recorders)
+// Tells what was exported. Fails where that is not all that was recorded, once.
+fn tell_exported<R: Print>(rt: &R, queue: &Queued<Ledger<'_>>, recorded: i128) -> Result<()> {
+    let (exported, gaps) = (queue.inner().sum(), queue.inner().gaps());
+    let (kept, lost) = (queue.kept().len(), queue.dropped());
+    println!(rt; "exported: {exported}, gaps {gaps}, kept {kept}, lost {lost}")?;
+    let is_all = i128::from(exported) == recorded;
+    ensure!(is_all, "not all was exported once");
+    Ok(())
 }
 
 // What the workers share.
 #[derive(Drop)]
-struct Jobs {
-    pages: Counter,
-}
+struct Jobs(Counter);
 
 impl Work<Asking, MeterProvider> for Jobs {
     // Does all jobs. Metrics stop no work: what is refused is missing in the totals.
     fn work<R: Wait + Clock>(&self, rt: &R, provider: &MeterProvider, worker: &mut Asking) {
         let mut at = worker.at(rt, provider);
         for (kind, count) in JOBS {
-            let _ = at.add(&self.pages, &[Attr::text("kind", kind)], *count);
+            let _ = at.add(&self.0, &[Attr::text("kind", kind)], count);
         }
     }
 }

@@ -64,11 +64,18 @@ one_more x from mark number false before is above rise =
     let since : nat_le from number ≡ true = le-leb from number (omega (arith, over, above)) in
     rw (is, before, past, since) (omega arith)
 
+-- the first window counts a recording or not
+counted_first : (x : Batch) (xs : List Batch) (number : ℕ) (within : Bool) → is_within x.from x.mark number ≡ within
+    → times_told (x ∷ xs) number ≡ (if is_within x.from x.mark number then 1 else 0) + times_told xs number
+counted_first x xs number true is = rw is (omega arith)
+counted_first x xs number false is = rw is (omega arith)
+
 told_once : (xs : List Batch) (from mark : ℕ) → AreWindows xs from mark → (number : ℕ)
     → times_told xs number ≡ (if is_within from mark number then 1 else 0)
 told_once [] from mark are number = rw are (in_none from number (nat_le from number) (nat_lt number from) refl refl)
 told_once (x ∷ xs) from mark are number =
-    ap (λ (n : ℕ). (if is_within x.from x.mark number then 1 else 0) + n) (told_once xs x.mark mark are.1.1 number)
+    counted_first x xs number (is_within x.from x.mark number) refl
+    ∙ ap (λ (n : ℕ). (if is_within x.from x.mark number then 1 else 0) + n) (told_once xs x.mark mark are.1.1 number)
     ∙ one_more x from mark number (nat_lt number x.mark) refl are.0 are.1.0 (windows_rise xs x.mark mark are.1.1)
 
 -- ---- what is handed on of what was given

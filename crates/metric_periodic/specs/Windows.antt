@@ -1,7 +1,7 @@
 -- The windows that an outlet collects over a run, and that each recording is in one of them.
-use Rattle.std.specs.Prelude.{◌≡◌, ◌≤◌, ◌+◌, ◌++◌, ℕ, zero, suc, Bool, true, ◌&&◌}
-use Rattle.std.specs.Prelude.{List, [], ◌∷◌, Option, Some, None, filter, if◌then◌else◌, nat_le}
-use Rattle.std.specs.Prelude.{nat_lt, slice_get}
+use Rattle.std.specs.Prelude.{◌≡◌, ◌≤◌, ◌++◌, ℕ, zero, suc, Bool, true, ◌&&◌}
+use Rattle.std.specs.Prelude.{List, [], ◌∷◌, Option, Some, None, filter, if◌then◌else◌, length}
+use Rattle.std.specs.Prelude.{nat_le, nat_lt, slice_get}
 use Rattle.metric_export.specs.Handings.{has_points}
 use Rattle.metric_facts.specs.declared.facts.Facts.{Facts}
 use Rattle.metric_facts.specs.Facts.{is_delta}
@@ -25,9 +25,8 @@ is_within from mark number = nat_le from number && nat_lt number mark
 
 -- how many batches count a recording
 abbrev pub times_told : List Batch → ℕ → ℕ
-times_told [] number = 0
-times_told (batch ∷ batches) number =
-    (if is_within batch.from batch.mark number then 1 else 0) + times_told batches number
+times_told batches number =
+    length (filter (λ (batch : Batch). is_within batch.from batch.mark number) batches)
 
 -- what a collection of an outlet gave, also what is not handed on
 abbrev pub given_of : (p : ProviderValue) (now : ℕ) (old new : Showing) (handed : List Batch)
@@ -51,7 +50,7 @@ pub record AddsCollection (p : ProviderValue) (instrument : ℕ) (old new : Coll
       ≡ earlier ++ filter (is_of instrument) (given_of p now from to batches refused collects)
   pub handed_is : handed ≡ before ++ filter (is_of instrument) batches
 
--- so many of these, one after the other, with what they gave of an instrument and what of it was
+-- so many of these, one after the other, with what they gave of an instrument and what of it is to be
 -- handed on
 abbrev pub AreCollections : ProviderValue → ℕ → ℕ → CollectorValue → CollectorValue → List Batch
     → List Batch → Type 0
@@ -65,8 +64,8 @@ AreCollections p instrument (suc made) old new given handed =
 -- # told once (SDK, temporality) [ToldOnce, AreCollections, times_told]
 -- Each recording that a delta reader has seen of an instrument in a run is in exactly one of the
 -- batches that its outlet collected, by its number, and no other is in any; and those with points
--- were handed on, in order. At the end of a run the reader has seen as many as the totals count, if
--- its last batches count them all (`Counts`).
+-- are among those to be handed on, in order. At the end of a run the reader has seen as many as the
+-- totals count, if its last batches count them all (`Counts`).
 pub record ToldOnce (p : ProviderValue) (instrument : ℕ) (last : CollectorValue)
     (given handed : List Batch) : Type 0 where
   pub once : (number : ℕ) → times_told given number

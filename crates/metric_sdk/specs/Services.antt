@@ -1,6 +1,6 @@
 -- A service, and how its runs end.
-use Rattle.std.specs.Prelude.{◌≡◌, ◌⊎◌, ◌==◌, ℕ, Bool, true, false, List, [], ◌∷◌, ◌++◌}
-use Rattle.std.specs.Prelude.{Option, Some, None, slice_get}
+use Rattle.std.specs.Prelude.{◌≡◌, ◌⊎◌, ◌==◌, ◌<◌, ℕ, Bool, true, false, List, [], ◌∷◌, ◌++◌}
+use Rattle.std.specs.Prelude.{Option, Some, None, length, slice_get, slice_index_or}
 use Rattle.std.specs.List.{list_all}
 use Rattle.metric_io.specs.Counts.{next_count}
 use Rattle.metric_handles.specs.Seats.{others_of}
@@ -162,3 +162,10 @@ pub record GoesOn {O : Type 0} (by : outlets.Ghosts O) (refuses : UnendedFault �
   pub recorders_are : recorders ≡ seats
   pub outlets : AreAsked by old.provider now old.outlets service.outlets told why
   pub cause : IsUnended (list_all is_collected told) refuses why
+
+-- # a run of a service (profile) [DoesEach]
+-- There are as many workers as before, and each did its work.
+pub record DoesEach {W : Type 0} (does : W → W → Type 0) (old new : List W) : Type 0 where
+  pub many : length new ≡ length old
+  pub each : (k : ℕ) (d : W) → k < length old
+      → does (slice_index_or old k d) (slice_index_or new k d)

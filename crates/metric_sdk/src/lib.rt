@@ -75,7 +75,8 @@
 //!
 //! - `Recorder::accepted` says what the seat was [`Told`], and [`left`] how much of its budget is left.
 //! - A [`Counted`] seat counts its refusals; handles take it as they take a recorder's (a [`Seat`]).
-//! - `known_or` and `clamped` of a handle replace an undeclared value by a declared one; a [`Replaced`] counts that.
+//! - `known_or` of a handle replaces an undeclared value by a declared one, and `At::add_clamped` and `record_clamped`
+//!   record an amount that is out of range as the nearest one that is in range; a [`Replaced`] counts both.
 //! - An [`Asking`] seat asks for some of a spare before its budget runs out; `wants_next_run` says when none is left.
 //!
 //! # Record faster
@@ -180,7 +181,7 @@
 //! test holds threads inside a lock. Services use [`Marked`] and [`NoGate`]. [`batches_are_bounded`] says of each
 //! batch, over every book, what [`tables_are_bounded`] says of running tables; [`windows_meet`] says that by number and
 //! by time nothing is between two of them, or in both. [`outlets_tell_once`] says so of a whole run of an [`Outlet`]: each
-//! recording of a delta reader is in one batch, and each batch with points is handed on.
+//! recording of a delta reader is in one batch, and each batch with points is to be handed on.
 //!
 //! A service that has to prove its numbers to somebody, for billing or after an incident, starts with [`Audited`]. It
 //! keeps each recording beside the tables, 32 bytes in the list of its instrument and 24 in the seat of its recorder:

@@ -2,9 +2,7 @@
 use crate::asserted::OrFail;
 use crate::page::Page;
 use crate::services::{Service, counted};
-use metric_handles::{
-    AnySeat, Asking, BoundUpDownCounter, Counted, Counter, Recorded, counter, up_down_counter,
-};
+use metric_handles::{AnySeat, Asking, Counted, Counter, Recorded, counter, up_down_counter};
 use metric_sdk::{MeterProvider, Plan, Refusal};
 use std::alloc::Global;
 use std::process::Abort;
@@ -36,15 +34,18 @@ name = 'console'
 // A seat that asks, and counts what it is refused.
 type Till = Counted<Asking>;
 
-// What a seat does: it adds so many orders one by one, or in one list. Or the instrument is closed.
+// What a seat does: it adds so many orders one by one, or in one list; or it counts work, up and down. Or the instrument
+// is closed.
 enum Step {
     Add(u64),
     List(u64),
+    Work,
     Close,
 }
 
 // How many a seat asks for at once, steps, and what each comes to: how many orders were made, refused for the budget
-// and not tried, what is left of the spare, and whether the seat wants the next run.
+// and not tried, what is left of the spare, and whether the seat wants the next run. Of work that is counted, before
+// that what becomes of it, what is then left of its own spare, and how often it was refused for the budget.
 type Run = (u64, &'static [Step], &'static str);
 
 const RUNS: &[Run] = &[
@@ -93,6 +94,19 @@ const RUNS: &[Run] = &[
 (3, 0, 0, 10, false)
 ",
     ),
+    // Without a budget both recordings of work are asked for, as long as the spare has both; then nothing is counted,
+    // nothing refused, and the next run is wanted.
+    (
+        0,
+        &[Step::Work, Step::Work, Step::Work],
+        "(Ok(()), 3, 0)
+(0, 0, 0, 10, false)
+(Ok(()), 1, 0)
+(0, 0, 0, 10, false)
+(Err(Budget), 0, 0)
+(0, 0, 0, 10, true)
+",
+    ),
 ];
 
 // A provider in the run of a number, with the seat of its recorder.
@@ -108,7 +122,7 @@ fn asking<R: Abort, S: Drop>(rt: &R, alloc: Global, plan: &Plan, seat: S, each: 
 }
 
 fn do_step<R: Abort + Wait>(
-    page: &Page<'_, R>,
+    page: &mut Page<'_, R>,
     provider: &MeterProvider,
     orders: &Counter,
     seat: &mut Till,
@@ -128,8 +142,23 @@ fn do_step<R: Abort + Wait>(
             }
             let _ = list.add(page.rt, provider, seat);
         }
+        Step::Work => tell_work(page, provider, seat),
         Step::Close => provider.close(page.rt, orders.number()).or_fail(page.rt),
     }
+}
+
+// Writes what becomes of work that is counted, what is then left of the spare, and how often it was refused.
+fn tell_work<R: Abort + Wait>(page: &mut Page<'_, R>, provider: &MeterProvider, till: &mut Till) {
+    let (rt, plan) = (page.rt, provider.plan());
+    let active = up_down_counter(plan, "shop", "active", &[]).or_fail(rt);
+    let active = active.bind(plan, &[]).or_fail(rt);
+    let (_, answer) = till.at(rt, provider).during(&active, |_| ());
+    let spare = provider.spare_left(rt, active.number()).or_fail(rt);
+    page.tell((
+        answer,
+        spare,
+        till.refused(active.number(), Refusal::Budget),
+    ))
 }
 
 // Writes what a seat was told of and refused, and what is left.
@@ -210,59 +239,4 @@ fn room_is_made_for_a_job(rt: HostRuntime) {
     seat.make_room(&rt, &other.provider, 0, 99);
     page.tell(other.provider.spare_left(&rt, 0).or_fail(&rt));
     page.assert(MADE);
-}
-
-// Writes what becomes of work that is counted, and what is then left of the spare.
-fn tell_work<R: Abort + Wait, S: Recorded>(
-    page: &mut Page<'_, R>,
-    provider: &MeterProvider,
-    active: &BoundUpDownCounter,
-    seat: &mut S,
-) {
-    page.tell(seat.at(page.rt, provider).during(active, |_| ()).1);
-    let left = provider.spare_left(page.rt, active.number());
-    page.tell(left.or_fail(page.rt))
-}
-
-// A seat without a budget asks for both recordings of work that is counted, as long as the spare has both; then nothing
-// is counted, and it wants the next run. The same of one that counts what it is refused, which is nothing here.
-const WORK: &str = "Ok(())
-3
-Ok(())
-1
-Err(Budget)
-0
-Ok(())
-3
-Ok(())
-1
-Err(Budget)
-0
-(0, true)
-";
-
-#[test]
-fn work_is_counted_by_what_a_seat_asks_for(rt: HostRuntime) {
-    let mut page = Page::new(&rt, rt.alloc());
-    let mut service = shop(&rt, rt.alloc(), 1);
-    let seat = service.take(&rt, "till");
-    let provider = &service.provider;
-    let plan = provider.plan();
-    let active = up_down_counter(plan, "shop", "active", &[]).or_fail(&rt);
-    let active = active.bind(plan, &[]).or_fail(&rt);
-    let mut seat = asking(&rt, rt.alloc(), plan, seat, 0);
-    for _turn in 0..3 {
-        tell_work(&mut page, provider, &active, &mut seat);
-    }
-    let mut other = shop(&rt, rt.alloc(), 2);
-    let seat = other.take(&rt, "till");
-    let provider = &other.provider;
-    let seat = asking(&rt, rt.alloc(), provider.plan(), seat, 0);
-    let mut till: Till = counted(&rt, rt.alloc(), provider.plan(), seat);
-    for _turn in 0..3 {
-        tell_work(&mut page, provider, &active, &mut till);
-    }
-    let refused = till.refused(active.number(), Refusal::Budget);
-    page.tell((refused, till.seat().wants_next_run()));
-    page.assert(WORK);
 }

@@ -1,12 +1,12 @@
 //! Calls on exporters, one by one: what each answers, and what the exporter then tells.
-use crate::asserted::{OrFail, assert_equal};
-use crate::failing::{Failing, failing_at};
+use crate::asserted::OrFail;
+use crate::failing::{Failing, failing_at, sink_of};
 use crate::page::Page;
 use crate::services::{DELTA, GERMAN, ORDERS, REFUNDS, Service};
 use metric_handles::value_of;
 use metric_sdk::{
     Batch, Broken, CutSink, KeepingExporter, MetricExporter, OpenSink, Plan, QueueCounts, Queued,
-    ReopeningExporter, ToldQueue, write_batch,
+    ReopeningExporter, TextExporter, ToldQueue, write_batch,
 };
 use std::alloc::Global;
 use std::process::Abort;
@@ -70,9 +70,13 @@ enum Exporter {
     Twice(&'static [u64]),
     // Queues of which other threads read the counts, the same ones, one after the other.
     Told(&'static [Queue]),
-    // An exporter that opens anew a sink whose flushes fail.
+    // An exporter that opens anew a sink whose flushes fail; and one whose sink is let go after these calls, and then
+    // takes the first batch.
     Reopening,
+    Reopened,
     Keeping,
+    // An exporter of texts to a sink that has so much room, and of which flushes work or not.
+    Text(Option<usize>, bool),
 }
 
 // How many batches a queue keeps at most, which calls of the exporter below it fail, and the calls of the queue.
@@ -82,7 +86,8 @@ struct Case {
     exporter: Exporter,
     calls: &'static [Call],
     // Of each call the answer, and of a queue how many batches were sent, are kept, were dropped, were not kept, and
-    // how many calls were made below. In the end, the times of the batches that were taken, each with its points.
+    // how many calls were made below. In the end, the times of the batches that were taken, each with its points; of an
+    // exporter of texts its state, and what its sink holds.
     told: &'static str,
 }
 
@@ -224,6 +229,19 @@ done
 2 ShutDown
 ",
     },
+    // A sink that is let go is followed by a new one, as where a file is renamed between two collections: it has what
+    // came later alone.
+    Case {
+        exporter: Exporter::Reopened,
+        calls: &[Call::First],
+        told: "done
+done
+done
+collected 10 1
+stream reader=\"d\" meter=\"shop\" version=\"\" schema=\"\" name=\"orders\" unit=\"\" description=\"\" kind=sum monotonic=yes temporality=delta
+point {\"country\"=\"de\"} start=0 time=10 value=42
+",
+    },
     // Batches are kept of their own plans, by which their points are found, and written by them alone.
     Case {
         exporter: Exporter::Keeping,
@@ -234,6 +252,59 @@ Some(Sum(42))
 None
 5 OtherPlan
 []
+",
+    },
+    // Batches are written as texts, until a write or a flush fails.
+    Case {
+        exporter: Exporter::Text(None, true),
+        calls: &[
+            Call::First,
+            Call::Flush,
+            Call::ShutDown,
+            Call::First,
+            Call::ShutDown,
+            Call::Flush,
+        ],
+        told: "done
+done
+done
+2 ShutDown
+2 ShutDown
+2 ShutDown
+ShutDown
+collected 10 1
+stream reader=\"d\" meter=\"shop\" version=\"\" schema=\"\" name=\"orders\" unit=\"\" description=\"\" kind=sum monotonic=yes temporality=delta
+point {\"country\"=\"de\"} start=0 time=10 value=42
+",
+    },
+    Case {
+        exporter: Exporter::Text(Some(20), true),
+        calls: &[Call::First, Call::First, Call::Flush],
+        told: "1 Write
+1 Write
+1 Write
+Broken
+collected 10 1
+strea",
+    },
+    Case {
+        exporter: Exporter::Text(None, false),
+        calls: &[Call::First, Call::Flush, Call::First],
+        told: "done
+1 Write
+1 Write
+Broken
+collected 10 1
+stream reader=\"d\" meter=\"shop\" version=\"\" schema=\"\" name=\"orders\" unit=\"\" description=\"\" kind=sum monotonic=yes temporality=delta
+point {\"country\"=\"de\"} start=0 time=10 value=42
+",
+    },
+    Case {
+        exporter: Exporter::Text(Some(0), false),
+        calls: &[Call::ShutDown, Call::First],
+        told: "1 Write
+2 ShutDown
+ShutDown
 ",
     },
 ];
@@ -343,24 +414,44 @@ fn tell_counts<R: Abort>(page: &mut Page<'_, R>, lent: Lent<'_>, queues: &[Queue
     }
 }
 
-// Opens sinks in memory of which each flush fails.
+// Opens sinks in memory, of which each flush works or not.
 #[derive(Drop)]
-struct Unflushable {
+struct Sinks {
     alloc: Global,
+    flushes: bool,
 }
 
-impl OpenSink<CutSink> for Unflushable {
+impl OpenSink<CutSink> for Sinks {
     ghost opens = { λ _ _ _. Unit {0} };
 
     fn open(&mut self) -> Result<CutSink, Broken> {
-        Ok(CutSink::new(self.alloc, None).with_failing_flush())
+        Ok(sink_of(self.alloc, None, self.flushes))
     }
 }
 
-fn tell_reopening<R: Abort>(page: &mut Page<'_, R>, lent: Lent<'_>, calls: &[Call]) {
-    let mut exporter = ReopeningExporter::new(Unflushable { alloc: page.alloc });
+// Makes calls of an exporter that opens its sinks anew.
+fn tell_reopening<R: Abort>(
+    page: &mut Page<'_, R>,
+    lent: Lent<'_>,
+    flushes: bool,
+    calls: &[Call],
+) -> ReopeningExporter<Sinks, CutSink> {
+    let alloc = page.alloc;
+    let mut exporter = ReopeningExporter::new(Sinks { alloc, flushes });
     for call in calls {
         make(page, &mut exporter, lent, call);
+    }
+    exporter
+}
+
+// The same, and then lets the sink go, exports the first batch, and writes what the new sink holds.
+fn tell_reopened<R: Abort>(page: &mut Page<'_, R>, lent: Lent<'_>, calls: &[Call]) {
+    let mut exporter = tell_reopening(page, lent, true, calls);
+    page.answer(exporter.reopen());
+    make(page, &mut exporter, lent, &Call::First);
+    let (_opener, sink) = exporter.into_parts();
+    if let Some(sink) = &sink {
+        page.push(str::from_utf8(sink.taken()).or_fail(page.rt));
     }
 }
 
@@ -380,6 +471,17 @@ fn tell_keeping<R: Abort>(page: &mut Page<'_, R>, lent: Lent<'_>, calls: &[Call]
     page.tell(sink.taken())
 }
 
+// Makes calls of an exporter of texts, and writes its state and what its sink holds.
+fn tell_text<R: Abort>(page: &mut Page<'_, R>, lent: Lent<'_>, sink: CutSink, calls: &[Call]) {
+    let mut exporter = TextExporter::new(sink);
+    for call in calls {
+        make(page, &mut exporter, lent, call);
+    }
+    page.tell(exporter.state());
+    let sink = exporter.into_inner();
+    page.push(str::from_utf8(sink.taken()).or_fail(page.rt))
+}
+
 fn tell_case<R: Abort>(page: &mut Page<'_, R>, lent: Lent<'_>, case: &Case) {
     let calls = case.calls;
     match case.exporter {
@@ -390,8 +492,14 @@ fn tell_case<R: Abort>(page: &mut Page<'_, R>, lent: Lent<'_>, case: &Case) {
         Exporter::Begun(fails_at) => tell_begun(page, lent, fails_at, calls),
         Exporter::Twice(fails_at) => tell_twice(page, lent, fails_at, calls),
         Exporter::Told(queues) => tell_counts(page, lent, queues),
-        Exporter::Reopening => tell_reopening(page, lent, calls),
+        Exporter::Reopening => {
+            let _exporter = tell_reopening(page, lent, false, calls);
+        }
+        Exporter::Reopened => tell_reopened(page, lent, calls),
         Exporter::Keeping => tell_keeping(page, lent, calls),
+        Exporter::Text(room, flushes) => {
+            tell_text(page, lent, sink_of(page.alloc, room, flushes), calls)
+        }
     }
 }
 
@@ -403,38 +511,4 @@ fn each_call_of_an_exporter_is_answered(rt: HostRuntime) {
         tell_case(&mut page, sources.lent(), case);
         page.assert(case.told);
     }
-}
-
-// Opens sinks in memory.
-#[derive(Drop)]
-struct Sinks {
-    alloc: Global,
-}
-
-impl OpenSink<CutSink> for Sinks {
-    ghost opens = { λ _ _ _. Unit {0} };
-
-    fn open(&mut self) -> Result<CutSink, Broken> {
-        Ok(CutSink::new(self.alloc, None))
-    }
-}
-
-// As where a file is renamed between two collections: the new one has what came later alone.
-#[test]
-fn a_sink_that_is_let_go_is_followed_by_a_new_one(rt: HostRuntime) {
-    let alloc = rt.alloc();
-    let sources = make_sources(&rt, alloc);
-    let lent = sources.lent();
-    let mut exporter = ReopeningExporter::new(Sinks { alloc });
-    exporter.export(alloc, lent.plan, lent.first).or_fail(&rt);
-    exporter.reopen().or_fail(&rt);
-    exporter.export(alloc, lent.plan, lent.first).or_fail(&rt);
-    let mut due = CutSink::new(alloc, None);
-    write_batch(alloc, &mut due, lent.plan, lent.first).or_fail(&rt);
-    let (_opener, sink) = exporter.into_parts();
-    let taken = match &sink {
-        Some(sink) => sink.taken().len(),
-        None => 0,
-    };
-    assert_equal(&rt, taken, due.taken().len());
 }

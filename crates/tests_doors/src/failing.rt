@@ -1,7 +1,9 @@
 //! An exporter that fails as a test wants it.
-ghost use Rattle.std.specs.Prelude.{[], None};
+ghost use Rattle.std.specs.Prelude.{◌≡◌, [], None};
+ghost use Rattle.metric_export.specs.States.{GoesOn};
+ghost use Rattle.metric_export.specs.declared.state.ExporterState.TheVariants.{ShutDown};
 
-use metric_sdk::{Batch, ExportFault, ExporterState, MetricExporter, Plan, own_plan};
+use metric_sdk::{Batch, CutSink, ExportFault, ExporterState, MetricExporter, Plan, own_plan};
 use std::alloc::Global;
 
 /// An exporter whose calls of these numbers, counted from 1, fail, that answers one of another number that the batch is
@@ -27,9 +29,9 @@ impl MetricExporter for Failing {
 
     ghost state = { λ e. e.state };
 
-    ghost export_gives = { λ _ _ _ _ _. Unit {0} };
+    ghost export_gives = { λ old new _ _ answer. GoesOn old.state new.state answer };
 
-    ghost shutdown_gives = { λ _ _ _. Unit {0} };
+    ghost shutdown_gives = { λ _ new _. new.state ≡ ShutDown };
 
     fn takes(&self, _plan: u64, _reader: u32) -> bool {
         true
@@ -99,4 +101,14 @@ pub(crate) fn unsteady(alloc: Global) -> Failing {
     exporter.keeps_at = 4;
     exporter.flushes = false;
     exporter
+}
+
+/// A sink that has room for so many bytes, and of which flushes work or not.
+pub(crate) fn sink_of(alloc: Global, room: Option<usize>, flushes: bool) -> CutSink {
+    let sink = CutSink::new(alloc, room);
+    if flushes {
+        sink
+    } else {
+        sink.with_failing_flush()
+    }
 }

@@ -218,7 +218,6 @@ enum Ask {
     Bind(&'static str),
     // To replace a value of a key, or an amount, where it is not declared.
     Known(&'static str, &'static str),
-    Clamp(i64),
 }
 
 const ASKS: &[Ask] = &[
@@ -228,10 +227,6 @@ const ASKS: &[Ask] = &[
     Ask::Known("country", "it"),
     Ask::Known("country", "fr"),
     Ask::Known("contry", "it"),
-    Ask::Clamp(0),
-    Ask::Clamp(1),
-    Ask::Clamp(100),
-    Ask::Clamp(101),
 ];
 
 // Keys that were compared are not refused. A key that the instrument does not declare is no value to replace; what is
@@ -242,11 +237,7 @@ country=de
 country=fr
 country=fr
 4 UnknownKey
-1
-1
-100
-100
-Replaced { values: 1, amounts: 2 }
+Replaced { values: 1, amounts: 0 }
 ";
 
 fn tell_ask<R: Abort>(
@@ -274,10 +265,6 @@ fn tell_ask<R: Abort>(
                 }
                 Err(refusal) => page.say(refusal),
             }
-        }
-        Ask::Clamp(value) => {
-            let amount = orders.clamped(plan, replaced, *value);
-            page.tell(amount.or_fail(page.rt))
         }
     }
 }

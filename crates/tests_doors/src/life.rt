@@ -1,6 +1,7 @@
 //! Tests of a service from its two files to its totals.
 use crate::asserted::{OrFail, assert_equal};
 use crate::ends::{end, export_left, runs_after};
+use crate::failing::sink_of;
 use crate::page::Page;
 use crate::services::{DELTA, HITS, Seats, Service};
 use metric_sdk::{
@@ -75,6 +76,12 @@ const OPENED: &[(&str, &str, By, &str)] = &[
     ("=", "=", By::Lanes(2), "catalogue 1 NotToml\n"),
     (CATALOGUE, "=", By::Lanes(1), "config 1 NotToml\n"),
     (CATALOGUE, "=", By::Lanes(2), "config 1 NotToml\n"),
+    (
+        HITS,
+        "format = 1\n[[reader]]\n",
+        By::Lanes(1),
+        "config 2 MissingField at reader 0\n",
+    ),
     (HIGH, CONFIG, By::Lanes(1), "make 4 SumHigh\n"),
     (HIGH, CONFIG, By::Lanes(2), "make 4 SumHigh\n"),
     (CATALOGUE, CONFIG, By::Certificate, SEATS),
@@ -333,12 +340,7 @@ fn tell_case<R: Abort + Wait>(page: &mut Page<'_, R>, case: &Case) {
 }
 
 fn exporter(alloc: Global, case: &Case) -> Lines {
-    let sink = CutSink::new(alloc, case.room);
-    TextExporter::new(if case.flushes {
-        sink
-    } else {
-        sink.with_failing_flush()
-    })
+    TextExporter::new(sink_of(alloc, case.room, case.flushes))
 }
 
 // Ends a service whose two readers have an exporter each, and exports by the plan what they hand back.

@@ -9,7 +9,7 @@ use crate::services::{HITS as ONE, Service};
 use metric_sdk::{
     Attr, Batch, Broken, CutSink, Dialect, Encoding, ExportFault, Exposition, KeepingExporter,
     MetricExporter, OtlpBytes, OtlpLines, OutletFault, PageExporter, Pages, Plan, Queued, Resource,
-    ResourceFault, Runs, Service as Whole, TextExporter, counter, histogram, open,
+    ResourceFault, Runs, Service as Whole, TextExporter, open,
 };
 use std::alloc::Global;
 use std::process::Abort;
@@ -128,14 +128,8 @@ struct Sources {
 fn make_sources<R: Abort + Wait>(rt: &R, alloc: Global) -> Sources {
     let opened = open(rt, alloc, CATALOGUE, CONFIG, 5, &mut Runs::new());
     let mut service = Service::of(opened.or_fail(rt));
-    let provider = &service.provider;
-    let hits = counter(provider.plan(), "m", "hits", &[]).or_fail(rt);
-    let sizes = histogram(provider.plan(), "m", "size", &[]).or_fail(rt);
-    let recorder = service.recorders.first_mut().expect(rt, "no recorder");
-    hits.add(rt, provider, recorder, &[], 7).or_fail(rt);
-    for size in [10, 23] {
-        let answer = sizes.record(rt, provider, recorder, &[], size);
-        answer.or_fail(rt);
+    for (instrument, value) in [(0, 7), (1, 10), (1, 23)] {
+        service.record(rt, instrument, &[], value);
     }
     let hits = service.collect(rt, alloc, 0, 10);
     let sizes = service.collect(rt, alloc, 1, 10);
@@ -222,6 +216,11 @@ fn tell_page<R: Abort>(
     call: &Call,
 ) {
     make(page, exporter, lent, call);
+    tell_shelf(page, exporter)
+}
+
+// Writes the last page.
+fn tell_shelf<R: Abort>(page: &mut Page<'_, R>, exporter: &PageExporter<Shelf>) {
     page.push(str::from_utf8(exporter.pages().page.as_slice()).or_fail(page.rt))
 }
 
@@ -298,10 +297,26 @@ fn lines_are_of_their_reader(rt: HostRuntime) {
     assert_equal(&rt, told, Err(ExportFault::OtherReader));
 }
 
-// The pages of a reader over three runs, of which the last is quiet, each after a flush and after the roll-over; and
-// how often the other one's batches went out, are kept, and how many points they had: one for each recording.
-const RUNS: &str = "5, 5; 7, 7; none, none; (3, 0)
-[(10, 1), (30, 1), (50, 0)]
+// What the page of a reader says beside its target, over three runs of which the last is quiet, after a flush and after
+// the roll-over; and how often the other one's batches went out, are kept, and how many points they had: one for each
+// recording.
+const RUNS: &[&str] = &[
+    TARGET,
+    FIVE,
+    TARGET,
+    FIVE,
+    TARGET,
+    HITS,
+    TARGET,
+    HITS,
+    TARGET,
+    TARGET,
+    "(3, 0)\n[(10, 1), (30, 1), (50, 0)]\n",
+];
+
+const FIVE: &str = "# HELP hits_total 
+# TYPE hits_total counter
+hits_total{otel_scope_name=\"m\"} 5
 ";
 
 // A recording in the first two of three runs: a delta reader has a queue over an exporter that fails at times, and a
@@ -322,26 +337,12 @@ fn tell_runs<R: Abort + Wait>(page: &mut Page<'_, R>, queue: &mut Queued<Failing
             answer.or_fail(page.rt);
         }
         service.force_flush(page.rt, page.alloc, now);
-        let shelf = service.outlets().1.exporter().pages();
-        page.push(value_on(shelf));
-        page.push(", ");
+        tell_shelf(page, service.outlets().1.exporter());
         let next = service.roll_over(page.rt, page.alloc, recorders, now + 10);
         let next = next.or_fail(page.rt);
         (service, recorders) = (next.service, next.recorders);
-        page.push(value_on(service.outlets().1.exporter().pages()));
-        page.push("; ");
+        tell_shelf(page, service.outlets().1.exporter());
     }
-}
-
-// The value on a page.
-fn value_on(shelf: &Shelf) -> &'static str {
-    let page = str::from_utf8(shelf.page.as_slice()).unwrap_or("");
-    for (line, value) in [("} 5\n", "5"), ("} 7\n", "7")] {
-        if page.contains(line) {
-            return value;
-        }
-    }
-    "none"
 }
 
 #[test]
@@ -351,5 +352,5 @@ fn each_reader_has_its_own_way_out(rt: HostRuntime) {
     tell_runs(&mut page, &mut queue);
     page.tell((queue.sent(), queue.kept().len()));
     page.tell(queue.inner().taken.as_slice());
-    page.assert(RUNS);
+    page.assert(RUNS.concat(rt.alloc()).or_fail(&rt).as_str());
 }

@@ -3,7 +3,7 @@ use crate::asserted::OrFail;
 use crate::page::Page;
 use crate::services::{Service, counted};
 use metric_handles::{
-    AnySeat, BoundUpDownCounter, Counted, Counter, Timer, TimerFault, counter, histogram,
+    AnySeat, BoundUpDownCounter, Counted, Counter, Need, Timer, TimerFault, counter, histogram,
     up_down_counter,
 };
 use metric_sdk::{
@@ -278,9 +278,8 @@ fn tell_replaced<R: Abort + Wait>(
     let uk = Attr::text("country", "uk");
     let known = at.known_or(&orders, &mut replaced, uk, ValueRef::Text("fr"));
     let known = known.or_fail(page.rt);
-    let amount = at.clamped(&orders, &mut replaced, 101).or_fail(page.rt);
-    page.tell(at.add(&orders, &[known], amount));
-    page.tell(replaced.values)
+    page.tell(at.add_clamped(&orders, &mut replaced, &[known], 101));
+    page.tell(replaced)
 }
 
 // What is told of work that fails, of a recording with replaced values and how many values were, and of work that is
@@ -288,7 +287,7 @@ fn tell_replaced<R: Abort + Wait>(
 // up and down, once.
 const FAILING: &str = "(Err(UnknownValue), Ok(()))
 Ok(())
-1
+Replaced { values: 1, amounts: 1 }
 (7, Err(Stranger))
 (1, (2, 0))
 ";
@@ -307,6 +306,55 @@ fn a_count_comes_back_where_work_fails(rt: HostRuntime) {
     let refused = seat.refused(0, Refusal::UnknownValue);
     page.tell((refused, made(&rt, seat.seat(), 1, -1)));
     page.assert(FAILING);
+}
+
+// Instruments with amounts, of which each is clamped to its instrument's range. The fourth of orders is beyond the budget,
+// and the last instrument is of another plan.
+const CLAMPED: &[(&str, i64)] = &[
+    ("orders", 0),
+    ("orders", 101),
+    ("orders", 100),
+    ("orders", 101),
+    ("took", 60001),
+    ("took", 0),
+    ("strange", 60001),
+];
+
+// The answers, what was replaced, and how many recordings of each came to what.
+const IN_RANGE: &str = "Ok(())
+Ok(())
+Ok(())
+Err(Budget)
+Ok(())
+Ok(())
+Err(Stranger)
+Replaced { values: 0, amounts: 3 }
+[(3, 201), (2, 60000)]
+";
+
+#[test]
+fn an_amount_is_clamped_to_the_range_of_its_own_instrument(rt: HostRuntime) {
+    let mut page = Page::new(&rt, rt.alloc());
+    let mut service = shop(&rt, rt.alloc());
+    let mut seat = service.take(&rt, "till");
+    let (plan, other) = (service.provider.plan(), strange(&rt, rt.alloc()));
+    let orders = orders_of(&rt, plan);
+    let took = histogram(plan, "shop", "took", &[]).or_fail(&rt);
+    let strange = histogram(&other, "other", "took", &[]).or_fail(&rt);
+    let mut replaced = Replaced::none();
+    let mut at = seat.at(&rt, &service.provider);
+    for (name, amount) in CLAMPED {
+        let german = [Attr::text("country", "de")];
+        page.tell(match *name {
+            "orders" => at.add_clamped(&orders, &mut replaced, &german, *amount),
+            "took" => at.record_clamped(&took, &mut replaced, &[], *amount),
+            _ => at.record_clamped(&strange, &mut replaced, &[], *amount),
+        });
+    }
+    drop(at);
+    page.tell(replaced);
+    page.tell([made(&rt, &seat, 0, 1), made(&rt, &seat, 3, 0)]);
+    page.assert(IN_RANGE);
 }
 
 // The timer of a histogram of a plan.
@@ -390,18 +438,7 @@ fn a_duration_is_no_shorter_than_its_work(rt: HostRuntime) {
     }
 }
 
-// How many recordings of orders and of durations a job makes, by the number of its handle.
-const JOBS: &[&[(usize, u64)]] = &[
-    &[],
-    &[(0, 1), (1, 1)],
-    &[(0, 3), (1, 2)],
-    // Of two needs of one instrument the sum is asked for.
-    &[(1, 1), (0, 2), (0, 2)],
-    &[(0, 1), (1, 3)],
-    &[(0, 1), (2, 1), (1, 3)],
-];
-
-// What it is told: there is room for all of it, or none.
+// What jobs are told: there is room for all of one, or none; of two needs of one instrument the sum is asked for.
 const ROOM: &str = "Ok(())
 Ok(())
 Ok(())
@@ -420,17 +457,16 @@ fn a_job_has_room_for_all_of_it_or_none(rt: HostRuntime) {
     let took = histogram(plan, "shop", "took", &[]).or_fail(&rt);
     let strange = histogram(&other, "other", "took", &[]).or_fail(&rt);
     let at = seat.at(&rt, &service.provider);
-    for job in JOBS {
-        let mut needs = Vec::new(rt.alloc());
-        for (handle, count) in *job {
-            let need = match handle {
-                0 => orders.need(*count),
-                1 => took.need(*count),
-                _ => strange.need(*count),
-            };
-            needs.push(need).or_fail(&rt);
-        }
-        page.tell(at.has_room(needs.as_slice()));
+    let jobs = [
+        &[] as &[Need],
+        &[orders.need(1), took.need(1)],
+        &[orders.need(3), took.need(2)],
+        &[took.need(1), orders.need(2), orders.need(2)],
+        &[orders.need(1), took.need(3)],
+        &[orders.need(1), strange.need(1), took.need(3)],
+    ];
+    for job in jobs {
+        page.tell(at.has_room(job));
     }
     page.assert(ROOM);
 }
