@@ -1,5 +1,5 @@
 // What threads pay for recordings on one counter of the Prometheus client for C++, with three labels and 1,000 series:
-// for a look beside the part `threads` of metric_trials, in the same minutes. Printed are nanoseconds for a recording of
+// for a look beside `tools/measure threads`, in the same minutes. Printed are nanoseconds for a recording of
 // each thread: the median of nine runs, and between what they lie.
 //
 //     c++ -O2 -std=c++17 tools/peers/threads.cpp -lprometheus-cpp-core -lpthread -o threads && ./threads

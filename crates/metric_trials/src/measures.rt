@@ -1,127 +1,109 @@
-//! What recording, collecting, checking and replaying cost, beside floors measured in the same run.
+//! What recording, collecting, checking and replaying cost, and floors to measure beside.
 //!
-//! `all`, or no word, measures everything; `record`, `collect`, `encode`, `threads`, `check`, `replay`, `audit` and
-//! `memory` a part. `--series`, `--attributes`, `--threads` and `--events` set sizes. Each figure names its unit, and
-//! is the least of several repetitions; of what threads do at once it is the median.
+//! `tools/measure` names the acts and their inputs, and makes a table of what is printed: of each repetition the time
+//! that the act took in nanoseconds (of what measures memory the bytes), how many operations it had, and a number that
+//! depends on all of it, so that no part of it can be left out.
 
 pub(crate) mod allocations;
 mod audits;
 mod calls;
-mod cells;
-mod checking;
-mod combined;
-mod encoding;
+mod files;
 mod floors;
 mod memory;
-mod parts;
-mod points;
 mod recording;
-mod replaying;
-mod table;
-mod tasks;
 mod threads;
 mod walk;
 mod watch;
-mod words;
-mod works;
+mod written;
 
 use crate::asserted::{OrFail, Stop};
-use crate::measures::parts::{Line, PARTS, Part, floor_name};
-use crate::measures::table::{Floor, Row, each, print_row, print_title, scaled};
-use crate::measures::words::Words;
-use crate::measures::works::{Case, least};
+use crate::inputs::Input;
+use crate::measures::calls::{How, how_of};
+use crate::measures::watch::Watch;
 use std::alloc::Global;
 use std::rt::Files;
-use std::sync::Wait;
 use std::thread::Threads;
-use std::time::Clock;
 
-/// Prints the table of the part that the words name. Whether they are right.
-pub(crate) fn run<R: Files + Print + AllocGlobal + Threads + Wait + Clock + Sync + Stop>(
+/// An act over an input.
+#[derive(Clone, Copy)]
+pub(crate) struct Case<'a> {
+    pub part: &'a str,
+    pub act: &'a str,
+    /// How recordings are made.
+    pub how: How,
+    pub input: &'a Input,
+    /// How many series there are, or other things.
+    pub size: u32,
+    /// About how many operations there are, of each thread.
+    pub events: u32,
+    pub threads: u32,
+}
+
+/// Does an act as often as the words say: `PART ACT HOW FILE SIZE EVENTS THREADS TIMES`. Whether they are right.
+pub(crate) fn run<R: Files + Print + AllocGlobal + Threads + Sync + Stop>(
     rt: &R,
     alloc: Global,
     words: &[String],
 ) -> bool {
-    let Some(words) = words::words_of(words) else {
+    let [_, _, _, name, ..] = words else {
         return false;
     };
-    if words.ask_for("memory") {
-        memory::measure(rt, alloc);
+    let Some(input) = Input::read(rt, alloc, name) else {
+        return false;
+    };
+    let Some((case, times)) = case_of(words, &input) else {
+        return false;
+    };
+    for _ in 0..times {
+        let mut watch = Watch::new(rt);
+        let Some(number) = done(rt, alloc, &case, &mut watch) else {
+            return false;
+        };
+        println!(rt; "{} {} {number}", watch.taken, watch.operations).or_fail(rt);
     }
-    let mut tally: u64 = 0;
-    for part in PARTS {
-        if words.ask_for(part.word) {
-            measure(rt, alloc, part, &words, &mut tally);
-        }
-    }
-    if words.ask_for("threads") {
-        threads::measure(rt, alloc, &words, &mut tally);
-    }
-    println!(rt; "\ntally {tally}").or_fail(rt);
     true
 }
 
-fn measure<R: Print + Wait + Clock + Stop>(
-    rt: &R,
-    alloc: Global,
-    part: &Part,
-    words: &Words<'_>,
-    tally: &mut u64,
-) {
-    print_title(rt, part.title, part.counted);
-    for size in words.sizes_or(part.place, part.sizes) {
-        measure_size(rt, alloc, part, *size, words.events(), tally);
-    }
+// What the words ask for, and how often.
+fn case_of<'a>(words: &'a [String], input: &'a Input) -> Option<(Case<'a>, u32)> {
+    let [part, act, how, _, size, events, threads, times] = words else {
+        return None;
+    };
+    let case = Case {
+        part,
+        act,
+        how: how_of(how)?,
+        input,
+        size: number_of(size)?,
+        events: number_of(events)?,
+        threads: number_of(threads)?,
+    };
+    Some((case, number_of(times)?))
 }
 
-fn measure_size<R: Print + Wait + Clock + Stop>(
-    rt: &R,
-    alloc: Global,
-    part: &Part,
-    size: u32,
-    events: u32,
-    tally: &mut u64,
-) {
-    for line in part.lines {
-        let (_, kind, act, _) = *line;
-        let case = Case {
-            act,
-            kind,
-            is_dense: part.is_dense,
-            streams: part.streams,
-            size,
-            events,
-        };
-        measure_line(rt, alloc, part, line, &case, tally);
-    }
+// A number that is not beyond what lists of it hold in memory.
+fn number_of(word: &str) -> Option<u32> {
+    let number = word.parse::<u32>().ok()?;
+    (number <= MOST).then_some(number)
 }
 
-// Measures what a line tells, and what stands beside it.
-fn measure_line<R: Print + Wait + Clock + Stop>(
+// The greatest number of a word.
+const MOST: u32 = 20_000_000;
+
+// Does an act while the watch runs. A number that depends on it; nothing for an unknown act.
+fn done<R: Files + AllocGlobal + Threads + Sync + Stop>(
     rt: &R,
     alloc: Global,
-    part: &Part,
-    line: &Line,
-    case: &Case,
-    tally: &mut u64,
-) {
-    let (name, _, _, act) = *line;
-    let one = least(rt, alloc, &Case { act, ..*case });
-    let told = least(rt, alloc, case);
-    *tally = tally.wrapping_add(one.number).wrapping_add(told.number);
-    let floor = Floor {
-        name: floor_name(act),
-        each: scaled(
-            each(one.nanoseconds, one.operations),
-            told.floors,
-            told.operations,
-        ),
-    };
-    let row = Row {
-        name,
-        size: told.size,
-        unit: part.unit,
-        operations: told.operations,
-    };
-    print_row(rt, &row, floor, each(told.nanoseconds, told.operations));
+    case: &Case<'_>,
+    watch: &mut Watch,
+) -> Option<u64> {
+    match case.part {
+        "floor" => floors::done(rt, alloc, case, watch),
+        "seat" => recording::done(rt, alloc, case, watch),
+        "write" => written::done(rt, alloc, case, watch),
+        "file" => files::done(rt, alloc, case, watch),
+        "memory" => memory::done(rt, alloc, case, watch),
+        "threads" => threads::done(rt, alloc, case, watch),
+        _ => None,
+    }
 }

@@ -2,13 +2,11 @@
 ghost use Rattle.std.specs.Prelude.{IsTrue};
 
 use crate::asserted::{OrFail, Stop, hold};
-use metric_history::Book;
-use metric_sdk::{
-    AuditFault, Batch, Collector, NoGate, Plan, Provider, Recorder, Totals, audit, certified_plan,
-    start_with_lanes,
-};
+use metric_audit::{AuditFault, audit};
+use metric_history::{Batch, Book};
+use metric_plan::Plan;
+use metric_provider::{Collector, NoGate, Provider, Recorder, Totals, start_with_lanes};
 use std::alloc::Global;
-use std::sync::Wait;
 
 /// When a run starts, in nanoseconds.
 pub(crate) const START: u64 = 0;
@@ -42,32 +40,15 @@ impl<B: Book> Seats<B> {
         (provider, recorders, collectors)
     }
 
-    /// The provider, and the seats of its recorders.
-    pub(crate) fn into_parts(self) -> (Provider<B, NoGate>, Vec<Recorder>) {
-        let Seats {
-            provider,
-            recorders,
-            collectors: _collectors,
-        } = self;
-        (provider, recorders)
-    }
-
     /// What the provider comes to.
-    pub(crate) fn finish<R: Wait + Stop>(self, rt: &R, alloc: Global) -> Totals {
-        let (provider, recorders) = self.into_parts();
+    pub(crate) fn finish<R: Stop>(self, rt: &R, alloc: Global) -> Totals {
+        let (provider, recorders, _collectors) = self.into_all();
         provider.finish(rt, alloc, recorders).ok().or_fail(rt)
     }
 }
 
-/// The certified plan of a catalogue and a config.
-pub(crate) fn plan_of<R: Stop>(rt: &R, alloc: Global, catalogue: &str, config: &str) -> Plan
-    ensures { IsTrue result.is_certified }
-{
-    certified_plan(alloc, catalogue, config).or_fail(rt)
-}
-
 /// The seats of a certified plan, where an instrument has so many lanes at most, or the plan when out of memory.
-pub(crate) fn started<R: Wait, B: Book>(
+pub(crate) fn started<R: Stop, B: Book>(
     rt: &R,
     alloc: Global,
     plan: Plan,
@@ -87,12 +68,7 @@ pub(crate) fn started<R: Wait, B: Book>(
 }
 
 /// The same, which has to succeed, of the first run.
-pub(crate) fn seats_of<R: Wait + Stop, B: Book>(
-    rt: &R,
-    alloc: Global,
-    plan: Plan,
-    lanes: u32,
-) -> Seats<B>
+pub(crate) fn seats_of<R: Stop, B: Book>(rt: &R, alloc: Global, plan: Plan, lanes: u32) -> Seats<B>
     requires { IsTrue plan.is_certified }
 {
     started(rt, alloc, plan, 1, lanes).ok().or_fail(rt)

@@ -59,7 +59,7 @@ pub(crate) fn tell_seats<R: Abort + Wait, B: Book>(
     lanes: u32,
 ) {
     let (rt, alloc, start) = (page.rt, page.alloc, script.start);
-    let mut seats: BookSeats<B> = seats_in_lanes(rt, alloc, catalogue, config, start, lanes);
+    let mut seats: BookSeats<B> = seats_in_lanes(rt, alloc, catalogue, config, start, (1, lanes));
     seats.tell_answers(page, script.events.as_slice());
 }
 

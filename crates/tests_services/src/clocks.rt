@@ -37,12 +37,13 @@ impl<R> Clock for SteppingClock<'_, R> {
     }
 }
 
-// The milliseconds of the period and how many ticks there are at most, what the clock tells, the ticks that are given,
-// and how often the waits read the clock: at its start, one reading later, and from there on every third, until the
-// period has gone by; there are two readings between.
+// The milliseconds of the period, how many ticks there are at most and whether the flag is set, what the clock tells,
+// the ticks that are given, and how often the waits read the clock: at its start, one reading later, and from there on
+// every third, until the period has gone by; there are two readings between.
 struct Case {
     period: u64,
     most: u64,
+    is_set: bool,
     moments: &'static [u64],
     ticks: &'static [Tick],
     readings: u64,
@@ -52,6 +53,7 @@ const CASES: &[Case] = &[
     Case {
         period: 3,
         most: 9,
+        is_set: false,
         moments: &[5, 3, 9],
         ticks: &[
             Tick::At(5),
@@ -64,16 +66,54 @@ const CASES: &[Case] = &[
     Case {
         period: 0,
         most: 9,
-        moments: &[7, 8],
-        ticks: &[Tick::At(7), Tick::At(8)],
-        readings: 4,
+        is_set: false,
+        moments: &[7, 8, 9, 10],
+        ticks: &[Tick::At(7), Tick::At(8), Tick::At(9), Tick::At(10)],
+        readings: 8,
     },
     Case {
         period: 5,
         most: 1,
+        is_set: false,
         moments: &[4, 6],
         ticks: &[Tick::At(4), Tick::Stop(6, StopCause::Ticks)],
         readings: 8,
+    },
+    // Where no tick is left, none is waited for.
+    Case {
+        period: 0,
+        most: 3,
+        is_set: false,
+        moments: &[5, 6, 7, 8],
+        ticks: &[
+            Tick::At(5),
+            Tick::At(6),
+            Tick::At(7),
+            Tick::Stop(8, StopCause::Ticks),
+        ],
+        readings: 6,
+    },
+    Case {
+        period: 1,
+        most: 0,
+        is_set: false,
+        moments: &[5, 6],
+        ticks: &[
+            Tick::Stop(5, StopCause::Ticks),
+            Tick::Stop(6, StopCause::Ticks),
+        ],
+        readings: 0,
+    },
+    Case {
+        period: 1,
+        most: 9,
+        is_set: true,
+        moments: &[5, 6],
+        ticks: &[
+            Tick::Stop(5, StopCause::Flag),
+            Tick::Stop(6, StopCause::Ticks),
+        ],
+        readings: 1,
     },
 ];
 
@@ -100,6 +140,9 @@ fn clock_of<'a, R>(rt: &'a R, moments: &'static [u64]) -> SteppingClock<'a, R> {
 fn a_clock_is_read_after_each_period(rt: HostRuntime) {
     for case in CASES {
         let flag = StopFlag::new();
+        if case.is_set {
+            flag.set(&rt);
+        }
         let clock = clock_of(&rt, case.moments);
         let mut ticker = ClockTicker::new(case.period, case.most, &flag);
         assert_ticks(&rt, &clock, &mut ticker, case.ticks);

@@ -1,4 +1,4 @@
-//! Recordings by set keys.
+//! Recordings by set keys, one by one and as lists.
 use crate::asserted::OrFail;
 use crate::page::Page;
 use crate::samples::{CODES, MAIN, PAIRS, ROUTES};
@@ -9,27 +9,36 @@ use std::alloc::Global;
 use std::process::Abort;
 use std::sync::Wait;
 
-struct KeyCase {
+// What a seat records on the first instrument: values by the entry of its key, as a list; or one value by the first
+// entries of a set key on the instrument of a number.
+enum Step {
+    List(&'static [(u16, i64)]),
+    One(u32, [u16; 3], i64),
+}
+
+// The number of the run of the seat; that of the provider is 1. What is told: the answer to each step, and after a list
+// what the seat was then told; and what is collected in the end.
+struct Case {
     catalogue: &'static str,
-    // The number of an instrument, the first entries of a set key, and a value.
-    recordings: &'static [(u32, [u16; 3], i64)],
-    // What is answered to each, and what is collected in the end.
+    run: u64,
+    steps: &'static [Step],
     told: &'static str,
 }
 
-const KEYS: &[KeyCase] = &[
+const CASES: &[Case] = &[
     // The first key is required, the second may be left out, and each has one value.
-    KeyCase {
+    Case {
         catalogue: CODES,
-        recordings: &[
-            (1, [1, 1, 0], 5),
-            (0, [0, 1, 0], 5),
-            (0, [2, 1, 0], 5),
-            (0, [1, 2, 0], 5),
-            (0, [1, 0, 1], 5),
-            (0, [1, 1, 0], 10),
-            (0, [1, 1, 0], 5),
-            (0, [1, 0, 0], 5),
+        run: 1,
+        steps: &[
+            Step::One(1, [1, 1, 0], 5),
+            Step::One(0, [0, 1, 0], 5),
+            Step::One(0, [2, 1, 0], 5),
+            Step::One(0, [1, 2, 0], 5),
+            Step::One(0, [1, 0, 1], 5),
+            Step::One(0, [1, 1, 0], 10),
+            Step::One(0, [1, 1, 0], 5),
+            Step::One(0, [1, 0, 0], 5),
         ],
         told: "1 UnknownInstrument
 5 UnknownValue
@@ -43,14 +52,15 @@ accepted
 ",
     },
     // A combination that is not allowed, before the range.
-    KeyCase {
+    Case {
         catalogue: PAIRS,
-        recordings: &[
-            (0, [1, 0, 0], 10),
-            (0, [1, 2, 0], 10),
-            (0, [1, 1, 0], 10),
-            (0, [2, 2, 0], 5),
-            (0, [2, 1, 0], 5),
+        run: 1,
+        steps: &[
+            Step::One(0, [1, 0, 0], 10),
+            Step::One(0, [1, 2, 0], 10),
+            Step::One(0, [1, 1, 0], 10),
+            Step::One(0, [2, 2, 0], 5),
+            Step::One(0, [2, 1, 0], 5),
         ],
         told: "5 UnknownValue
 13 Combination
@@ -60,61 +70,24 @@ accepted
 0 0, 0 to 1, 0 to 10: stream 0 [2 2] 5
 ",
     },
-];
-
-// Writes the answer to each recording of the first recorder.
-fn tell_recordings<R: Abort + Wait>(
-    page: &mut Page<'_, R>,
-    seats: &mut Seats,
-    recordings: &[(u32, [u16; 3], i64)],
-) {
-    let seat = seats.recorders.first_mut().expect(page.rt, "no recorder");
-    for (instrument, [first, second, third], value) in recordings {
-        let set = [*first, *second, *third, 0, 0, 0, 0, 0];
-        let answer = seat.record_set(page.rt, &seats.provider, *instrument, set, *value);
-        page.answered(answer, "accepted\n");
-    }
-}
-
-// Writes what the first reader is told.
-fn tell_collected<R: Abort + Wait>(page: &mut Page<'_, R>, seats: &mut Seats) {
-    let seat = seats.collectors.first_mut().expect(page.rt, "no reader");
-    page.collected(seat.collect(page.rt, page.alloc, &seats.provider, 0, 10))
-}
-
-#[test]
-fn set_keys_are_recorded_or_refused(rt: HostRuntime) {
-    for case in KEYS {
-        let mut page = Page::new(&rt, rt.alloc());
-        let mut seats: Seats = seats_of(&rt, rt.alloc(), case.catalogue, MAIN, 0, 1);
-        tell_recordings(&mut page, &mut seats, case.recordings);
-        tell_collected(&mut page, &mut seats);
-        page.assert(case.told);
-    }
-}
-
-// Lists of recordings, one after the other: the entry of the key, and the value.
-struct ListCase {
-    // The number of the run of the seat; that of the provider is 1.
-    run: u64,
-    lists: &'static [&'static [(u16, i64)]],
-    // What is answered to each list with what the seat was then told, and what is collected in the end.
-    told: &'static str,
-}
-
-const LISTS: &[ListCase] = &[
-    ListCase {
+    Case {
+        catalogue: ROUTES,
         run: 1,
-        lists: &[&[(1, 5), (2, 3), (1, 1)]],
+        steps: &[Step::List(&[(1, 5), (2, 3), (1, 1)])],
         told: "Ok(())
 Some(Told { count: 3, amount: 6 })
 0 0, 0 to 3, 0 to 10: stream 0 [1 0] 6 [2 0] 3
 ",
     },
     // The budget ends in a list, or before one.
-    ListCase {
+    Case {
+        catalogue: ROUTES,
         run: 1,
-        lists: &[&[(1, 5)], &[(2, 3), (1, 2), (2, 9), (1, 1)], &[(1, 1)]],
+        steps: &[
+            Step::List(&[(1, 5)]),
+            Step::List(&[(2, 3), (1, 2), (2, 9), (1, 1)]),
+            Step::List(&[(1, 1)]),
+        ],
         told: "Ok(())
 Some(Told { count: 1, amount: 4 })
 Err(SetsFault { place: 2, refusal: Budget })
@@ -125,12 +98,13 @@ Some(Told { count: 3, amount: 7 })
 ",
     },
     // A set key or a value that is not declared, also after the budget has ended.
-    ListCase {
+    Case {
+        catalogue: ROUTES,
         run: 1,
-        lists: &[
-            &[(1, 5), (3, 3), (2, 1)],
-            &[(2, 1), (2, 0)],
-            &[(1, 2), (1, 9), (3, 1)],
+        steps: &[
+            Step::List(&[(1, 5), (3, 3), (2, 1)]),
+            Step::List(&[(2, 1), (2, 0)]),
+            Step::List(&[(1, 2), (1, 9), (3, 1)]),
         ],
         told: "Err(SetsFault { place: 1, refusal: UnknownValue })
 Some(Told { count: 1, amount: 4 })
@@ -142,17 +116,19 @@ Some(Told { count: 3, amount: 5 })
 ",
     },
     // No recordings, and a stranger.
-    ListCase {
+    Case {
+        catalogue: ROUTES,
         run: 1,
-        lists: &[&[]],
+        steps: &[Step::List(&[])],
         told: "Ok(())
 Some(Told { count: 0, amount: 0 })
 0 0, 0 to 0, 0 to 10: stream 0
 ",
     },
-    ListCase {
+    Case {
+        catalogue: ROUTES,
         run: 2,
-        lists: &[&[], &[(1, 5), (3, 3)]],
+        steps: &[Step::List(&[]), Step::List(&[(1, 5), (3, 3)])],
         told: "Ok(())
 Some(Told { count: 0, amount: 0 })
 Err(SetsFault { place: 0, refusal: Stranger })
@@ -172,30 +148,44 @@ fn measurements<R: Abort>(rt: &R, alloc: Global, list: &[(u16, i64)]) -> Vec<Mea
     all
 }
 
-// Writes the answer to each list of recordings, and what the seat was then told.
-fn tell_lists<R: Abort + Wait>(
+fn tell_step<R: Abort + Wait>(
     page: &mut Page<'_, R>,
     provider: &MeterProvider,
     seat: &mut Recorder,
-    lists: &[&[(u16, i64)]],
+    step: &Step,
 ) {
-    for list in lists {
-        let all = measurements(page.rt, page.alloc, list);
-        page.tell(seat.record_sets(page.rt, provider, 0, all.as_slice()));
-        page.tell(seat.accepted(0));
+    match step {
+        Step::List(list) => {
+            let all = measurements(page.rt, page.alloc, list);
+            page.tell(seat.record_sets(page.rt, provider, 0, all.as_slice()));
+            page.tell(seat.accepted(0))
+        }
+        Step::One(instrument, [first, second, third], value) => {
+            let set = [*first, *second, *third, 0, 0, 0, 0, 0];
+            let answer = seat.record_set(page.rt, provider, *instrument, set, *value);
+            page.answered(answer, "accepted\n")
+        }
     }
 }
 
 // A seat of the provider's run is its own, since both were told of nothing.
+fn tell_case<R: Abort + Wait>(page: &mut Page<'_, R>, case: &Case) {
+    let (rt, alloc) = (page.rt, page.alloc);
+    let mut own: Seats = seats_of(rt, alloc, case.catalogue, MAIN, 0, 1);
+    let mut other: Seats = seats_of(rt, alloc, case.catalogue, MAIN, 0, case.run);
+    let seat = other.recorders.first_mut().expect(rt, "no recorder");
+    for step in case.steps {
+        tell_step(page, &own.provider, seat, step);
+    }
+    let reader = own.collectors.first_mut().expect(rt, "no reader");
+    page.collected(reader.collect(rt, alloc, &own.provider, 0, 10))
+}
+
 #[test]
-fn lists_are_recorded_up_to_the_first_refusal(rt: HostRuntime) {
-    for case in LISTS {
+fn set_keys_are_recorded_or_refused(rt: HostRuntime) {
+    for case in CASES {
         let mut page = Page::new(&rt, rt.alloc());
-        let mut seats: Seats = seats_of(&rt, rt.alloc(), ROUTES, MAIN, 0, 1);
-        let mut others: Seats = seats_of(&rt, rt.alloc(), ROUTES, MAIN, 0, case.run);
-        let seat = others.recorders.first_mut().expect(&rt, "no recorder");
-        tell_lists(&mut page, &seats.provider, seat, case.lists);
-        tell_collected(&mut page, &mut seats);
+        tell_case(&mut page, case);
         page.assert(case.told);
     }
 }

@@ -126,7 +126,7 @@ fn seen<R: Abort + Threads + Wait + Sync>(
 #[test]
 fn a_collection_of_lanes_is_one_step(rt: HostRuntime) {
     for lanes in [1, 2] {
-        let seats = seats_in_lanes(&rt, rt.alloc(), CATALOGUE, CONFIG, 0, lanes);
+        let seats = seats_in_lanes(&rt, rt.alloc(), CATALOGUE, CONFIG, 0, (1, lanes));
         let all = Some((5_000, 5_000));
         assert_equal(&rt, seen(&rt, rt.alloc(), seats), (all, all));
     }

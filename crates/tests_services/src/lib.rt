@@ -1,5 +1,4 @@
-//! Tests of what a service runs: instruments behind locks, their seats and slots, exporters, tickers and periodic
-//! readers.
+//! Tests of what a service runs: instruments behind locks, their seats and slots, and tickers.
 //!
 //! A module has what no clause says: that a seat's call makes its step, that what is given is called through its trait,
 //! and that a call succeeds while memory is there. Most tests have what they are told written as one text, case by
@@ -15,8 +14,6 @@ mod audited;
 #[cfg(test)]
 mod clocks;
 #[cfg(test)]
-mod exporters;
-#[cfg(test)]
 mod gates;
 #[cfg(test)]
 mod generated;
@@ -31,20 +28,12 @@ mod lives;
 #[cfg(test)]
 mod page;
 #[cfg(test)]
-mod periods;
-#[cfg(test)]
 mod runs;
 #[cfg(test)]
 mod samples;
 #[cfg(test)]
 mod seats;
 #[cfg(test)]
-mod setups;
-#[cfg(test)]
 mod slots;
 #[cfg(test)]
 mod texts;
-#[cfg(test)]
-mod ticks;
-#[cfg(test)]
-mod wavering;

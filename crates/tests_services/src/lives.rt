@@ -43,6 +43,8 @@ pub(crate) enum Act {
     RollOver(u64, u64),
     Finish,
     FinishPartly,
+    // The act at this place of those that a test gives.
+    Given(usize),
 }
 
 // Writes the answers to the lines of a script.
@@ -246,27 +248,29 @@ fn end<R: Abort + Wait, B: Book>(
     }
 }
 
-/// Lets these acts happen to a provider of these files, which runs since a time, until it ends.
-pub(crate) fn live<R: Abort + Wait, B: Book>(
-    page: &mut Page<'_, R>,
-    files: (&str, &str, u64),
-    acts: &[Act],
-) {
-    live_in_lanes::<R, B>(page, files, 1, acts)
+// The act that stands in a list, or the one that is given for it.
+fn chosen(next: Act, given: &[Act]) -> Act {
+    match next {
+        Act::Given(place) => given.get(place).copied().unwrap_or(next),
+        _ => next,
+    }
 }
 
-/// The same, where an instrument has so many lanes at most.
-pub(crate) fn live_in_lanes<R: Abort + Wait, B: Book>(
+/// Lets these acts happen to a provider of these files, which runs since a time and has so many lanes at most for an
+/// instrument, until it ends.
+pub(crate) fn live<R: Abort + Wait, B: Book>(
     page: &mut Page<'_, R>,
     files: (&str, &str, u64),
     lanes: u32,
     acts: &[Act],
+    given: &[Act],
 ) {
     let (catalogue, config, since) = files;
     let (rt, alloc) = (page.rt, page.alloc);
-    let mut seats: BookSeats<B> = seats_in_lanes(rt, alloc, catalogue, config, since, lanes);
+    let mut seats: BookSeats<B> = seats_in_lanes(rt, alloc, catalogue, config, since, (1, lanes));
     let mut aside = Vec::new(page.alloc);
     for next in acts {
+        let next = &chosen(*next, given);
         match next {
             Act::RollOver(_, _) | Act::Finish | Act::FinishPartly => match end(page, seats, next) {
                 Some(going) => seats = going,

@@ -1,13 +1,10 @@
 //! Lives of providers with their seats, from the first recording to the totals.
 use crate::asserted::OrFail;
-use crate::lives::{Act, live, live_in_lanes};
+use crate::lives::{Act, live};
 use crate::page::Page;
 use crate::samples::{BOTH, HITS, MAIN, PAIR, SPARED};
 use metric_audit::Audited;
-use metric_history::Book;
 use metric_marked::Marked;
-use std::process::Abort;
-use std::sync::Wait;
 
 // The files of a provider, since when it runs, what happens in its run of number 1, and what is told.
 struct Life {
@@ -308,7 +305,7 @@ fn providers_live_with_their_seats(rt: HostRuntime) {
     for life in LIVES {
         let mut page = Page::new(&rt, rt.alloc());
         let files = (life.catalogue, life.config, life.since);
-        live::<_, Marked>(&mut page, files, life.acts);
+        live::<_, Marked>(&mut page, files, 1, life.acts, &[]);
         page.assert(life.told);
     }
 }
@@ -326,30 +323,90 @@ name = 'r'
 budget = [{ instrument = 0, amount = 10 }, { instrument = 1, amount = 10 }]
 ";
 
-// Seats that are brought to the end of another provider's run, and why it does not end with them: seats of a run with
+// Seats that are brought to an end of another provider's run, and why it does not end with them: seats of a run with
 // the same number come with another sum of either counter, or with other numbers of recordings; they are of another
 // run; or there are none.
-const BROUGHT: &[(Act, &str)] = &[
+const BROUGHT: &[(&[Act], &str)] = &[
     (
-        Act::Bring(1, "record 0 0 4\nrecord 0 1 50\n", 1),
+        &[
+            Act::Bring(1, "record 0 0 4\nrecord 0 1 50\n", 1),
+            Act::Finish,
+        ],
         "3 AuditMismatch\n1\n",
     ),
     (
-        Act::Bring(1, "record 0 0 5\nrecord 0 1 49\n", 1),
+        &[
+            Act::Bring(1, "record 0 0 5\nrecord 0 1 49\n", 1),
+            Act::Finish,
+        ],
         "3 AuditMismatch\n1\n",
     ),
     (
-        Act::Bring(1, "record 0 0 5\nrecord 0 0 0\n", 1),
+        &[
+            Act::Bring(1, "record 0 0 5\nrecord 0 0 0\n", 1),
+            Act::Finish,
+        ],
         "3 AuditMismatch\n1\n",
     ),
     (
-        Act::Bring(2, "record 0 0 5\nrecord 0 1 50\n", 1),
+        &[
+            Act::Bring(2, "record 0 0 5\nrecord 0 1 50\n", 1),
+            Act::Finish,
+        ],
         "2 Stranger\n1\n",
     ),
     (
-        Act::Bring(1, "record 0 0 5\nrecord 0 1 50\n", 0),
+        &[
+            Act::Bring(1, "record 0 0 5\nrecord 0 1 50\n", 0),
+            Act::Finish,
+        ],
         "1 RecorderMissing\n0\n",
     ),
+    (
+        &[
+            Act::Bring(1, "record 0 0 4\nrecord 0 1 50\n", 1),
+            Act::RollOver(100, 3),
+        ],
+        "3 AuditMismatch\n1\n",
+    ),
+    (
+        &[
+            Act::Bring(1, "record 0 0 5\nrecord 0 1 49\n", 1),
+            Act::RollOver(100, 3),
+        ],
+        "3 AuditMismatch\n1\n",
+    ),
+    (
+        &[
+            Act::Bring(1, "record 0 0 5\nrecord 0 0 0\n", 1),
+            Act::RollOver(100, 3),
+        ],
+        "3 AuditMismatch\n1\n",
+    ),
+    (
+        &[
+            Act::Bring(2, "record 0 0 5\nrecord 0 1 50\n", 1),
+            Act::RollOver(100, 3),
+        ],
+        "2 Stranger\n1\n",
+    ),
+    (
+        &[
+            Act::Bring(1, "record 0 0 5\nrecord 0 1 50\n", 0),
+            Act::RollOver(100, 3),
+        ],
+        "1 RecorderMissing\n0\n",
+    ),
+];
+
+// What happens before and after.
+const GOES_ON: &[Act] = &[
+    Act::Script("record 0 0 5\nrecord 0 1 50\ncollect 0 0 10\n"),
+    Act::Given(0),
+    Act::Given(1),
+    Act::Back,
+    Act::Script("record 0 0 2\nrecord 0 1 30\ncollect 0 1 20\n"),
+    Act::Finish,
 ];
 
 // What is told before the refusal, and after it.
@@ -368,21 +425,11 @@ accepted
 
 #[test]
 fn a_provider_goes_on_after_the_seats_of_another(rt: HostRuntime) {
-    for (brought, refused) in BROUGHT {
-        for end in [Act::Finish, Act::RollOver(100, 3)] {
-            let acts = [
-                Act::Script("record 0 0 5\nrecord 0 1 50\ncollect 0 0 10\n"),
-                *brought,
-                end,
-                Act::Back,
-                Act::Script("record 0 0 2\nrecord 0 1 30\ncollect 0 1 20\n"),
-                Act::Finish,
-            ];
-            let mut page = Page::new(&rt, rt.alloc());
-            live::<_, Marked>(&mut page, (UNLIKE, MAIN, 7), &acts);
-            let wanted = [BEFORE, *refused, THEREAFTER].concat(rt.alloc());
-            page.assert(wanted.or_fail(&rt).as_str());
-        }
+    for (given, refused) in BROUGHT {
+        let mut page = Page::new(&rt, rt.alloc());
+        live::<_, Marked>(&mut page, (UNLIKE, MAIN, 7), 1, GOES_ON, given);
+        let wanted = [BEFORE, *refused, THEREAFTER].concat(rt.alloc());
+        page.assert(wanted.or_fail(&rt).as_str());
     }
 }
 
@@ -474,35 +521,82 @@ done
 ([Total { count: 12, sum: 27 }], 1, 1)
 ";
 
-// The seats of another run of the same number, in which each recorded less, do not end this one, and a seat less
-// neither.
+// How many lanes there may be, and an end that is refused: the seats of another run of the same number, in which each
+// recorded less, do not end this one, and a seat less neither.
+const LANED: &[(u32, &[Act], &str)] = &[
+    (
+        1,
+        &[Act::Bring(1, "", 6), Act::Finish],
+        "3 AuditMismatch\n6\n",
+    ),
+    (
+        2,
+        &[Act::Bring(1, "", 6), Act::Finish],
+        "3 AuditMismatch\n6\n",
+    ),
+    (
+        6,
+        &[Act::Bring(1, "", 6), Act::Finish],
+        "3 AuditMismatch\n6\n",
+    ),
+    (
+        64,
+        &[Act::Bring(1, "", 6), Act::RollOver(100, 3)],
+        "3 AuditMismatch\n6\n",
+    ),
+    (
+        2,
+        &[Act::Bring(1, "", 6), Act::RollOver(100, 3)],
+        "3 AuditMismatch\n6\n",
+    ),
+    (
+        1,
+        &[Act::Bring(1, "", 5), Act::Finish],
+        "1 RecorderMissing\n5\n",
+    ),
+    (
+        2,
+        &[Act::Bring(1, "", 5), Act::Finish],
+        "1 RecorderMissing\n5\n",
+    ),
+    (
+        6,
+        &[Act::Bring(1, "", 5), Act::Finish],
+        "1 RecorderMissing\n5\n",
+    ),
+    (
+        64,
+        &[Act::Bring(1, "", 5), Act::RollOver(100, 3)],
+        "1 RecorderMissing\n5\n",
+    ),
+    (
+        2,
+        &[Act::Bring(1, "", 5), Act::RollOver(100, 3)],
+        "1 RecorderMissing\n5\n",
+    ),
+];
+
+// What happens before and after.
+const IN_LANES: &[Act] = &[
+    Act::Script(EACH),
+    Act::Ask(3, 0, 4),
+    Act::Ask(5, 0, 3),
+    Act::Ask(0, 0, 4),
+    Act::Left,
+    Act::Given(0),
+    Act::Given(1),
+    Act::Back,
+    Act::Script(AGAIN),
+    Act::Finish,
+];
+
 #[test]
 fn each_lane_is_asked_and_stays_in_its_place(rt: HostRuntime) {
-    for (count, refused) in [(6, "3 AuditMismatch\n6\n"), (5, "1 RecorderMissing\n5\n")] {
-        for (lanes, end) in [
-            (1, Act::Finish),
-            (2, Act::Finish),
-            (6, Act::Finish),
-            (64, Act::RollOver(100, 3)),
-            (2, Act::RollOver(100, 3)),
-        ] {
-            let acts = [
-                Act::Script(EACH),
-                Act::Ask(3, 0, 4),
-                Act::Ask(5, 0, 3),
-                Act::Ask(0, 0, 4),
-                Act::Left,
-                Act::Bring(1, "", count),
-                end,
-                Act::Back,
-                Act::Script(AGAIN),
-                Act::Finish,
-            ];
-            let mut page = Page::new(&rt, rt.alloc());
-            live_in_lanes::<_, Marked>(&mut page, (SIX, MAIN, 7), lanes, &acts);
-            let wanted = [BY_EACH, refused, BY_EACH_AGAIN].concat(rt.alloc());
-            page.assert(wanted.or_fail(&rt).as_str());
-        }
+    for (lanes, given, refused) in LANED {
+        let mut page = Page::new(&rt, rt.alloc());
+        live::<_, Marked>(&mut page, (SIX, MAIN, 7), *lanes, IN_LANES, given);
+        let wanted = [BY_EACH, *refused, BY_EACH_AGAIN].concat(rt.alloc());
+        page.assert(wanted.or_fail(&rt).as_str());
     }
 }
 
@@ -555,28 +649,22 @@ accepted
 accepted
 ";
 
-fn tell_there<R: Abort + Wait, B: Book>(
-    page: &mut Page<'_, R>,
-    seats: &'static [u32],
-    other: Option<u64>,
-) {
-    let acts = [
-        Act::Script("record 0 0 1\nrecord 0 1 2\nrecord 1 0 3\nrecord 1 1 0\nrecord 1 0 2\n"),
-        Act::Keep(seats),
-        Act::Add(other, 0),
-        Act::FinishPartly,
-        Act::Drop,
-        Act::FinishPartly,
-    ];
-    live::<R, B>(page, (PAIR, BOTH, 0), &acts)
-}
+const ALL_THERE: &[Act] = &[
+    Act::Script("record 0 0 1\nrecord 0 1 2\nrecord 1 0 3\nrecord 1 1 0\nrecord 1 0 2\n"),
+    Act::Given(0),
+    Act::Given(1),
+    Act::FinishPartly,
+    Act::Drop,
+    Act::FinishPartly,
+];
 
 #[test]
 fn the_seats_that_are_there_end_a_provider(rt: HostRuntime) {
     for (seats, other, told) in THERE {
         let mut page = Page::new(&rt, rt.alloc());
-        tell_there::<_, Marked>(&mut page, seats, *other);
-        tell_there::<_, Audited>(&mut page, seats, *other);
+        let given = [Act::Keep(seats), Act::Add(*other, 0)];
+        live::<_, Marked>(&mut page, (PAIR, BOTH, 0), 1, ALL_THERE, &given);
+        live::<_, Audited>(&mut page, (PAIR, BOTH, 0), 1, ALL_THERE, &given);
         let wanted = [ACCEPTED, *told, "0\n0\n", ACCEPTED, *told, "3\n2\n"];
         page.assert(wanted.concat(rt.alloc()).or_fail(&rt).as_str());
     }

@@ -112,9 +112,3 @@ name = 'C'
 name = 'D'
 temporality = { counter = 'delta' }
 ";
-
-/// What the delta reader's batch of the counter without keys is written as, after a recording of 5.
-pub(crate) const FIVE: &str = "collected 10 1
-stream reader=\"D\" meter=\"m\" version=\"\" schema=\"\" name=\"hits\" unit=\"\" description=\"\" kind=sum monotonic=yes temporality=delta
-point {} start=0 time=10 value=5
-";

@@ -1,11 +1,10 @@
 //! A provider with its seats, and what they answer to events.
 use crate::asserted::OrFail;
 use crate::page::Page;
-use crate::samples::{BOTH, HITS};
 use metric_contents::{Attr, OwnedAttr, Refusal};
 use metric_history::{Book, Event, Reply};
 use metric_marked::Marked;
-use metric_provider::{Collector, NoGate, Provider, Recorder, start, start_with_lanes};
+use metric_provider::{Collector, NoGate, Provider, Recorder, start_with_lanes};
 use metric_sdk::certified_plan;
 use std::alloc::Global;
 use std::process::Abort;
@@ -41,24 +40,20 @@ pub(crate) fn seats_of<R: Abort + Wait, B: Book>(
     since: u64,
     run: u64,
 ) -> BookSeats<B> {
-    let plan = certified_plan(alloc, catalogue, config).or_fail(rt);
-    match start(rt, alloc, plan, since, run, NoGate) {
-        Ok(made) => seated(made),
-        Err((_, _, refused)) => Err(refused).or_fail(rt),
-    }
+    seats_in_lanes(rt, alloc, catalogue, config, since, (run, 1))
 }
 
-/// The same, where an instrument has so many lanes at most.
+/// The same in a run of a number, where an instrument has so many lanes at most.
 pub(crate) fn seats_in_lanes<R: Abort + Wait, B: Book>(
     rt: &R,
     alloc: Global,
     catalogue: &str,
     config: &str,
     since: u64,
-    lanes: u32,
+    (run, lanes): (u64, u32),
 ) -> BookSeats<B> {
     let plan = certified_plan(alloc, catalogue, config).or_fail(rt);
-    match start_with_lanes(rt, alloc, plan, since, 1, NoGate, lanes) {
+    match start_with_lanes(rt, alloc, plan, since, run, NoGate, lanes) {
         Ok(made) => seated(made),
         Err((_, _, refused)) => Err(refused).or_fail(rt),
     }
@@ -73,15 +68,6 @@ pub(crate) fn seated<B: Book>((provider, recorders, collectors): Parts<B>) -> Bo
         provider,
         recorders,
         collectors,
-    }
-}
-
-/// A counter for a cumulative and a delta reader, in the run of a number, after a recording of 5.
-pub(crate) fn hit_once<R: Abort + Wait>(rt: &R, alloc: Global, run: u64) -> Seats {
-    let mut seats: Seats = seats_of(rt, alloc, HITS, BOTH, 0, run);
-    match seats.record(rt, 0, 0, &[], 5) {
-        Reply::Accepted => seats,
-        _ => panic!(rt; "not accepted"),
     }
 }
 

@@ -1,32 +1,18 @@
 //! Recordings between marks, by which `tools/watch-allocations` counts the allocations that each asks for.
 use crate::asserted::{OrFail, Stop};
-use crate::inputs::{Cycle, one_of, recordings, shaped_plan};
+use crate::inputs::Input;
 use crate::mark::mark;
 use crate::measures::calls::{Calls, How, LIST};
 use crate::seats::{Seats, seats_of};
-use metric_sdk::{Marked, MeterProvider, Recorder, Refusal};
+use crate::series::{Cycle, recordings};
+use metric_contents::Refusal;
+use metric_marked::Marked;
+use metric_provider::{NoGate, Provider, Recorder};
 use std::alloc::Global;
-use std::sync::Wait;
+use std::rt::Files;
 
 // How many series an instrument has.
 const SERIES: u32 = 64;
-
-// How many streams it has.
-const STREAMS: u32 = 3;
-
-// The instruments: their names, the numbers of their kinds, and whether their tables are dense.
-const INSTRUMENTS: &[(&str, usize, bool)] = &[
-    ("counter, dense", 0, true),
-    ("up-down counter, dense", 4, true),
-    ("gauge, dense", 1, true),
-    ("histogram of 15, dense", 2, true),
-    ("histogram of 128, dense", 3, true),
-    ("counter, by hash", 0, false),
-    ("up-down counter, by hash", 4, false),
-    ("gauge, by hash", 1, false),
-    ("histogram of 15, by hash", 2, false),
-    ("histogram of 128, by hash", 3, false),
-];
 
 // What is recorded one after the other, how, and whether its series are held. By attributes it is one recording, else
 // sixteen of as many series.
@@ -38,20 +24,20 @@ const STEPS: &[(&str, How, bool)] = &[
     ("held, sixteen under one lock", How::Lists, true),
 ];
 
-/// Starts a provider of an instrument of each kind, makes recordings between marks, and prints what each is answered.
-pub(crate) fn print_answers<R: Print + Wait + Stop>(rt: &R, alloc: Global) {
-    for (name, kind, is_dense) in INSTRUMENTS {
-        let plan = shaped_plan(rt, alloc, &one_of(*kind, SERIES, *is_dense), STREAMS);
-        print_steps(rt, alloc, *name, seats_of(rt, alloc, plan, 1));
-    }
-}
-
-fn print_steps<R: Print + Wait + Stop>(
+/// Starts a provider of a file, makes recordings between marks, and prints what each is answered. Whether the words are
+/// right.
+pub(crate) fn run<R: Files + Print + AllocGlobal + Stop>(
     rt: &R,
     alloc: Global,
-    name: &str,
-    mut seats: Seats<Marked>,
-) {
+    words: &[String],
+) -> bool {
+    let [name] = words else {
+        return false;
+    };
+    let Some(input) = Input::read(rt, alloc, name) else {
+        return false;
+    };
+    let mut seats: Seats<Marked> = seats_of(rt, alloc, input.plan(rt, alloc), 1);
     let sixteen = recordings(rt, alloc, LIST, SERIES);
     let recorder = seats.recorders.last_mut().or_fail(rt);
     for (what, how, are_held) in STEPS {
@@ -69,17 +55,14 @@ fn print_steps<R: Print + Wait + Stop>(
         mark(alloc);
         let answer = recorded(rt, &seats.provider, recorder, calls);
         mark(alloc);
-        let answer = match answer {
-            Ok(()) => "accepted",
-            Err(refusal) => refusal.name(),
-        };
-        println!(rt; "{name}, {}: {answer}", *what).or_fail(rt);
+        println!(rt; "{}: {answer:?}", *what).or_fail(rt);
     }
+    true
 }
 
-fn recorded<R: Wait>(
+fn recorded<R: Stop>(
     rt: &R,
-    provider: &MeterProvider,
+    provider: &Provider<Marked, NoGate>,
     recorder: &mut Recorder,
     calls: Calls<'_>,
 ) -> Result<(), Refusal> {

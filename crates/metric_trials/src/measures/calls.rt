@@ -1,10 +1,9 @@
 //! What a seat records.
 use crate::asserted::{OrFail, Stop};
-use crate::inputs::Cycle;
+use crate::series::Cycle;
+use metric_contents::Refusal;
 use metric_history::Book;
-use metric_sdk::{Measurement, NoGate, Provider, Recorder, Refusal};
-use std::sync::Wait;
-use std::sync::atomic::{AtomicBool, Ordering};
+use metric_provider::{Measurement, NoGate, Provider, Recorder};
 
 /// How recordings are made.
 #[derive(Clone, Copy, PartialEq, Eq)]
@@ -15,6 +14,16 @@ pub(crate) enum How {
     Sets,
     /// The same, each list of [`LIST`] of them under one lock.
     Lists,
+}
+
+/// The way of a word.
+pub(crate) fn how_of(word: &str) -> Option<How> {
+    match word {
+        "attributes" => Some(How::Attributes),
+        "sets" => Some(How::Sets),
+        "lists" => Some(How::Lists),
+        _ => None,
+    }
 }
 
 /// How many recordings are made under one lock.
@@ -32,14 +41,8 @@ pub(crate) struct Calls<'a> {
 }
 
 impl Calls<'_> {
-    /// How often each recording with a set key is made, where so many are asked for: once at least.
-    pub(crate) fn rounds(self, events: u32) -> u32 {
-        let count = u32::try_from(self.recordings.len()).unwrap_or(u32::MAX);
-        (events / count.max(1)).max(1)
-    }
-
     /// Makes so many rounds. How many recordings there were.
-    pub(crate) fn repeat<R: Wait + Stop, B: Book>(
+    pub(crate) fn repeat<R: Stop, B: Book>(
         self,
         rt: &R,
         provider: &Provider<B, NoGate>,
@@ -47,8 +50,7 @@ impl Calls<'_> {
         rounds: u32,
     ) -> u64 {
         if self.how == How::Attributes {
-            let events = rounds.saturating_mul(self.series);
-            return self.record_until(rt, provider, recorder, events, &AtomicBool::new(false));
+            return self.record_each(rt, provider, recorder, rounds.saturating_mul(self.series));
         }
         for _ in 0..rounds {
             self.record_round(rt, provider, recorder).or_fail(rt);
@@ -56,33 +58,27 @@ impl Calls<'_> {
         u64::from(rounds).wrapping_mul(self.recordings.len() as u64)
     }
 
-    /// Makes so many recordings with attributes, or fewer where it is over before. How many there were.
-    pub(crate) fn record_until<R: Wait + Stop, B: Book>(
+    /// Makes so many recordings with attributes. How many there were.
+    pub(crate) fn record_each<R: Stop, B: Book>(
         self,
         rt: &R,
         provider: &Provider<B, NoGate>,
         recorder: &mut Recorder,
         events: u32,
-        is_over: &AtomicBool,
     ) -> u64 {
         let mut cycle = Cycle::new(self.series);
-        let mut made: u64 = 0;
         for _ in 0..events {
-            if is_over.load(Ordering::SeqCst) {
-                break;
-            }
             let attributes = cycle.attributes();
             recorder
                 .record(rt, provider, self.instrument, &attributes, cycle.value())
                 .or_fail(rt);
-            made = made.wrapping_add(1);
             cycle.step();
         }
-        made
+        u64::from(events)
     }
 
     /// Makes each recording with a set key once.
-    pub(crate) fn record_round<R: Wait, B: Book>(
+    pub(crate) fn record_round<R: Stop, B: Book>(
         self,
         rt: &R,
         provider: &Provider<B, NoGate>,
@@ -97,7 +93,7 @@ impl Calls<'_> {
         Ok(())
     }
 
-    fn record_lists<R: Wait, B: Book>(
+    fn record_lists<R: Stop, B: Book>(
         self,
         rt: &R,
         provider: &Provider<B, NoGate>,

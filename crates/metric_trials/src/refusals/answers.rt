@@ -1,24 +1,9 @@
-//! What calls answered.
+//! What calls answered, as text.
 use crate::asserted::{OrFail, Stop};
+use metric_contents::Refusal;
+use metric_history::{Batch, Reply};
 use std::alloc::Global;
-use std::fmt::{Debug, Display};
-
-/// Adds a text.
-pub(crate) fn push<R: Stop>(rt: &R, out: &mut String, text: &str) {
-    out.push_str(text).or_fail(rt);
-}
-
-/// Adds a line: a word, and what is told behind it.
-pub(crate) fn push_line<R: Stop, D: Display>(rt: &R, out: &mut String, word: &str, what: &D) {
-    writeln!(out, "{word} {what}").or_fail(rt);
-}
-
-/// Adds a line for each of a list.
-pub(crate) fn push_each<R: Stop, D: Debug>(rt: &R, out: &mut String, list: &[D]) {
-    for one in list {
-        writeln!(out, "{one:?}").or_fail(rt);
-    }
-}
+use std::fmt::Debug;
 
 /// What a call answered, what it answered when it was made again, and what the state came to.
 pub(crate) struct Answers {
@@ -57,16 +42,6 @@ impl Answers {
     pub(crate) fn has_refusal(&self) -> bool {
         self.first.as_str().starts_with(REFUSED) || self.second.as_str().starts_with(REFUSED)
     }
-
-    /// Whether the second answer is the first.
-    pub(crate) fn are_alike(&self) -> bool {
-        self.first.as_str() == self.second.as_str()
-    }
-
-    /// The first line of the first answer.
-    pub(crate) fn in_short(&self) -> &str {
-        self.first.as_str().lines().next().unwrap_or("nothing")
-    }
 }
 
 // How the reply to one step begins that is a refusal.
@@ -75,4 +50,64 @@ const REFUSED: &str = "reply refused ";
 // Whether a line tells a fault; no line of a reply or a certificate begins as such a line does.
 fn has_fault(answer: &str) -> bool {
     answer.lines().any(|line| line.starts_with("fault "))
+}
+
+/// Adds a text.
+pub(crate) fn push<R: Stop>(rt: &R, out: &mut String, text: &str) {
+    out.push_str(text).or_fail(rt);
+}
+
+/// Adds the line of a fault.
+pub(crate) fn push_fault<R: Stop, E: Debug>(rt: &R, out: &mut String, fault: &E) {
+    writeln!(out, "fault {fault:?}").or_fail(rt);
+}
+
+/// Adds a line for each of a list.
+pub(crate) fn push_each<R: Stop, D: Debug>(rt: &R, out: &mut String, list: &[D]) {
+    for one in list {
+        writeln!(out, "{one:?}").or_fail(rt);
+    }
+}
+
+/// Adds the text of each reply, whose first line begins with a word that no other line begins with.
+pub(crate) fn push_replies<R: Stop>(rt: &R, out: &mut String, replies: &[Reply]) {
+    for reply in replies {
+        push_reply(rt, out, reply);
+    }
+}
+
+/// Adds the text of a reply.
+pub(crate) fn push_reply<R: Stop>(rt: &R, out: &mut String, reply: &Reply) {
+    match reply {
+        Reply::Accepted | Reply::Done | Reply::Granted => push(rt, out, "reply done\n"),
+        Reply::Collected(batch) => push_batch(rt, out, batch),
+        Reply::Refused(refusal) => writeln!(out, "{REFUSED}{refusal:?}").or_fail(rt),
+    }
+}
+
+/// Adds the text of a batch.
+pub(crate) fn push_batch<R: Stop>(rt: &R, out: &mut String, batch: &Batch) {
+    let (from, mark, start, time) = (batch.from, batch.mark, batch.start, batch.time);
+    writeln!(out, "reply batch {from} to {mark}, {start} to {time}").or_fail(rt);
+    for stream in batch.streams.as_slice() {
+        for point in stream.points.as_slice() {
+            writeln!(out, "{} {:?} {:?}", stream.stream, point.set, point.value).or_fail(rt);
+        }
+    }
+}
+
+/// The reply to a step that answers this.
+pub(crate) fn reply_to(answer: Result<(), Refusal>) -> Reply {
+    match answer {
+        Ok(()) => Reply::Done,
+        Err(refusal) => Reply::Refused(refusal),
+    }
+}
+
+/// The reply to a collection that answers this.
+pub(crate) fn reply_with(answer: Result<Batch, Refusal>) -> Reply {
+    match answer {
+        Ok(batch) => Reply::Collected(batch),
+        Err(refusal) => Reply::Refused(refusal),
+    }
 }

@@ -1,15 +1,13 @@
-//! The calls of a core and of the cell of an instrument.
-use crate::asserted::{OrFail, Stop, hold};
+//! The calls of a core.
+use crate::asserted::{OrFail, Stop};
+use crate::inputs::Input;
 use crate::mark::mark;
-use crate::refusals::answers::{Answers, push};
-use crate::refusals::inputs::Data;
-use crate::refusals::prepared::{all_events, data_plan, events_but};
-use crate::refusals::replies::{push_replies, push_reply, reply_to};
-use crate::refusals::words::Words;
+use crate::refusals::Asked;
+use crate::refusals::answers::{Answers, push, push_fault, push_replies};
 use crate::seats::START;
-use metric_core::{Cell, Core};
+use metric_core::Core;
 use metric_history::{Book, Reply};
-use metric_sdk::Plan;
+use metric_plan::Plan;
 use std::alloc::{AllocError, Global};
 
 /// Makes a core, and runs the script on it.
@@ -17,9 +15,9 @@ pub(crate) fn answer_new<R: Stop, B: Book>(
     answers: &mut Answers,
     rt: &R,
     alloc: Global,
-    data: &Data,
+    input: &Input,
 ) {
-    let plan = data_plan(rt, alloc, data);
+    let plan = input.plan(rt, alloc);
     mark(alloc);
     let first: Result<Core<B>, (Plan, AllocError)> = Core::new(alloc, plan, START);
     mark(alloc);
@@ -28,81 +26,40 @@ pub(crate) fn answer_new<R: Stop, B: Book>(
             push(rt, &mut answers.first, "a core\n");
             core
         }
-        Err((plan, _)) => {
-            push(rt, &mut answers.first, "fault memory\n");
-            let core = Core::new(alloc, plan, START).ok().or_fail(rt);
+        Err((plan, error)) => {
+            push_fault(rt, &mut answers.first, &error);
             push(rt, &mut answers.second, "a core\n");
-            core
+            Core::new(alloc, plan, START).ok().or_fail(rt)
         }
     };
-    push_script(rt, &mut answers.state, alloc, data, &mut core);
+    push_ran(rt, &mut answers.state, core.run(alloc, &input.events));
 }
 
-// What the script is answered.
-fn push_script<R: Stop, B: Book>(
-    rt: &R,
-    out: &mut String,
-    alloc: Global,
-    data: &Data,
-    core: &mut Core<B>,
-) {
-    let replies = core.run(alloc, all_events(rt, alloc, data).as_slice());
-    push_ran(rt, out, alloc, core.plan(), replies);
-}
-
-/// Runs the script, but the event that the words leave out, and then all of it again.
+/// Runs the script, but the event that is left out, and then all of it again.
 pub(crate) fn answer_run<R: Stop, B: Book>(
     answers: &mut Answers,
     rt: &R,
     alloc: Global,
-    words: &Words,
+    asked: &Asked<'_>,
 ) {
-    let plan = data_plan(rt, alloc, words.data);
+    let plan = asked.input.plan(rt, alloc);
     let mut core: Core<B> = Core::new(alloc, plan, START).ok().or_fail(rt);
-    let events = events_but(rt, alloc, words.data, words.left);
+    let events = asked.input.events.as_slice();
+    let before = events.get(..asked.left).unwrap_or(events);
+    let after = events.get(asked.left.saturating_add(1)..).unwrap_or(&[]);
     mark(alloc);
-    let first = core.run(alloc, events.as_slice());
+    let first = core.run(alloc, before);
     mark(alloc);
-    push_ran(rt, &mut answers.first, alloc, core.plan(), first);
-    if !words.is_once {
-        push_script(rt, &mut answers.second, alloc, words.data, &mut core);
+    push_ran(rt, &mut answers.first, first);
+    push_ran(rt, &mut answers.first, core.run(alloc, after));
+    if !asked.is_once {
+        push_ran(rt, &mut answers.second, core.run(alloc, events));
     }
 }
 
-fn push_ran<R: Stop>(
-    rt: &R,
-    out: &mut String,
-    alloc: Global,
-    plan: &Plan,
-    answer: Result<Vec<Reply>, AllocError>,
-) {
+fn push_ran<R: Stop>(rt: &R, out: &mut String, answer: Result<Vec<Reply>, AllocError>) {
     match answer {
-        Ok(replies) => push_replies(rt, out, alloc, plan, &replies),
-        Err(_) => push(rt, out, "fault memory\n"),
+        Ok(replies) => push_replies(rt, out, &replies),
+        Err(error) => push_fault(rt, out, &error),
     }
-}
-
-/// Grants the first recorder a recording of the first instrument's spare budget.
-pub(crate) fn answer_grant<R: Stop, B: Book>(
-    answers: &mut Answers,
-    rt: &R,
-    alloc: Global,
-    words: &Words,
-) {
-    let plan = data_plan(rt, alloc, words.data);
-    hold(rt, plan.all_facts().len() > 0, "an instrument is there");
-    let mut cell: Cell<B> = Cell::new(alloc, &plan, 0, START).or_fail(rt);
-    hold(rt, cell.facts().budgets.len() > 0, "a recorder is there");
-    mark(alloc);
-    let first = cell.grant(0, 1);
-    mark(alloc);
-    let first = reply_to(first, Reply::Granted);
-    push_reply(rt, &mut answers.first, alloc, &plan, &first);
-    if !words.is_once {
-        hold(rt, cell.facts().budgets.len() > 0, "a recorder is there");
-        let second = reply_to(cell.grant(0, 1), Reply::Granted);
-        push_reply(rt, &mut answers.second, alloc, &plan, &second);
-    }
-    let (granted, spare) = (cell.granted(0), cell.spare());
-    writeln!(answers.state, "granted {granted}, to spare {spare}").or_fail(rt);
 }

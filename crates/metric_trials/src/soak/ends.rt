@@ -1,15 +1,16 @@
 //! What a round came to, compared.
-use crate::asserted::{OrFail, Stop};
+use crate::asserted::{OrFail, Stop, hold};
 use crate::seats::audited;
-use crate::soak::figures::{ACCEPTED, BATCHES, ENTRIES, Figures, SETTLED};
-use crate::soak::inputs::{INSTRUMENTS, check};
+use crate::soak::INSTRUMENTS;
+use crate::soak::figures::{ACCEPTED, BATCHES, ENTRIES, Figures};
 use crate::soak::reading::Watcher;
 use crate::soak::recording::{NOTHING, Tally, Worker};
-use metric_history::Book;
-use metric_sdk::{Batch, Kind, NoGate, Plan, Provider, Recorder, Total, Totals};
+use metric_contents::Kind;
+use metric_history::{Batch, Book};
+use metric_plan::Plan;
+use metric_provider::{NoGate, Provider, Recorder, Total, Totals};
 use std::alloc::Global;
 use std::mem;
-use std::sync::Wait;
 
 /// The threads of recorders and readers after their end.
 #[derive(Drop)]
@@ -20,7 +21,7 @@ pub(crate) struct Ended {
 
 /// Ends the provider, and compares its totals with what each recorder was told and what each reader saw. Where the
 /// books keep entries, all batches are audited.
-pub(crate) fn settle<R: Wait + Stop, B: Book>(
+pub(crate) fn settle<R: Stop, B: Book>(
     rt: &R,
     alloc: Global,
     provider: Provider<B, NoGate>,
@@ -35,13 +36,12 @@ pub(crate) fn settle<R: Wait + Stop, B: Book>(
     } = ended;
     let recorders = recorders_of(rt, alloc, workers, &mut told, figures);
     let totals = provider.finish(rt, alloc, recorders);
-    check(rt, 0, totals.is_ok(), "the totals are not settled");
+    hold(rt, totals.is_ok(), "the totals are not settled");
     let totals = totals.ok().or_fail(rt);
     for (number, tally) in told.iter().enumerate() {
         let total = totals.instruments.get(number).or_fail(rt);
         compare(rt, plan, number, total, tally, &watchers);
     }
-    figures.add(SETTLED, INSTRUMENTS as u64);
     for watcher in watchers.iter_mut() {
         figures.add_all(&watcher.figures);
         let last = mem::replace(&mut watcher.last, Vec::new(alloc));
@@ -79,9 +79,8 @@ fn add_tallies<R: Stop>(
     let mut number = 0;
     for (all, own) in told.iter_mut().zip(&worker.told) {
         let seat = worker.recorder.accepted(number).or_fail(rt);
-        check(
+        hold(
             rt,
-            number,
             seat.count == own.count,
             "a seat was told of other recordings",
         );
@@ -102,15 +101,14 @@ fn compare<R: Stop>(
     tally: &Tally,
     watchers: &[Watcher],
 ) {
-    let at = u32::try_from(number).or_fail(rt);
     let is_told = total.count == tally.count && total.sum == i128::from(tally.sum);
-    check(rt, at, is_told, "the total is not what recorders were told");
+    hold(rt, is_told, "the total is not what recorders were told");
     let kind = plan.catalogue().instruments().get(number).or_fail(rt).kind;
     for watcher in watchers {
         let last = watcher.last.get(number).or_fail(rt);
         let sum = i128::from(*watcher.sums.get(number).or_fail(rt));
         let is_seen = last.mark == total.count && (kind == Kind::Gauge || total.sum == sum);
-        check(rt, at, is_seen, "the batches do not come to the total");
+        hold(rt, is_seen, "the batches do not come to the total");
     }
 }
 
@@ -127,7 +125,7 @@ fn audit_all<R: Stop>(
         let batches = batches_of(rt, alloc, watchers, instrument);
         figures.add(BATCHES, batches.len() as u64);
         let entries = audited(rt, alloc, plan, instrument, totals, &batches);
-        check(rt, instrument, entries.is_ok(), "the audit fails");
+        hold(rt, entries.is_ok(), "the audit fails");
         figures.add(ENTRIES, entries.or_fail(rt));
     }
 }

@@ -1,44 +1,38 @@
 //! What rounds did, in numbers.
 use crate::asserted::{OrFail, Stop};
 
-/// A figure, by its place.
+/// The place of the rounds among the figures.
 pub(crate) const ROUNDS: usize = 0;
 
-/// The accepted recordings, and those that were refused: of the closed instrument, and beyond a budget.
+/// Of the accepted recordings, and of those that were refused: of the closed instrument, and beyond a budget.
 pub(crate) const ACCEPTED: usize = 1;
 
 pub(crate) const CLOSED: usize = 2;
 
 pub(crate) const BEYOND: usize = 3;
 
-/// How often a recorder was granted more.
+/// Of the grants.
 pub(crate) const GRANTS: usize = 4;
 
-/// The collections of all instruments by each reader, and their points.
-pub(crate) const DELTAS: usize = 5;
+/// Of the collections of all instruments, and their points.
+pub(crate) const COLLECTIONS: usize = 5;
 
-pub(crate) const CUMULATIVES: usize = 6;
+pub(crate) const POINTS: usize = 6;
 
-pub(crate) const POINTS: usize = 7;
+/// Of the batches that were audited, and the recordings that they were audited with.
+pub(crate) const BATCHES: usize = 7;
 
-/// The totals that were compared, the batches that were audited, and the recordings that they were audited with.
-pub(crate) const SETTLED: usize = 8;
-
-pub(crate) const BATCHES: usize = 9;
-
-pub(crate) const ENTRIES: usize = 10;
+pub(crate) const ENTRIES: usize = 8;
 
 // What stands behind each figure.
-const NAMES: [&str; 11] = [
+const NAMES: [&str; 9] = [
     " rounds, ",
     " recordings accepted, ",
     " refused as closed, ",
     " beyond a budget, ",
     " grants, ",
-    " delta and ",
-    " cumulative collections, ",
+    " collections of all instruments, ",
     " points, ",
-    " totals settled, ",
     " batches of ",
     " recordings audited, nothing is off",
 ];
@@ -46,13 +40,13 @@ const NAMES: [&str; 11] = [
 /// What the rounds over a book, or a thread of one, did.
 #[derive(Clone, Copy)]
 pub(crate) struct Figures {
-    counts: [u64; 11],
+    counts: [u64; 9],
 }
 
 impl Figures {
     /// Before the first round.
     pub(crate) fn new() -> Figures {
-        Figures { counts: [0; 11] }
+        Figures { counts: [0; 9] }
     }
 
     /// Adds to the figure of a place.

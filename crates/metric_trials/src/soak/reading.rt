@@ -1,15 +1,15 @@
 //! What the thread of a reader does, and what it saw.
-use crate::asserted::{OrFail, Stop};
-use crate::soak::figures::{CUMULATIVES, DELTAS, Figures, POINTS};
-use crate::soak::inputs::{INSTRUMENTS, check};
+use crate::asserted::{OrFail, Stop, hold};
+use crate::soak::INSTRUMENTS;
+use crate::soak::figures::{COLLECTIONS, Figures, POINTS};
 use crate::soak::seen::{Asked, follows, points_of, rises, sum_of};
-use metric_history::Book;
-use metric_sdk::{Batch, Collector, Kind, NoGate, Provider};
+use metric_contents::Kind;
+use metric_history::{Batch, Book};
+use metric_provider::{Collector, NoGate, Provider};
 use std::alloc::Global;
 use std::mem;
-use std::sync::Wait;
 use std::sync::atomic::{AtomicU64, Ordering};
-use std::time::{Clock, Instant};
+use std::time::Instant;
 
 /// A seat that collects, with what it saw.
 pub(crate) struct Watcher {
@@ -69,7 +69,7 @@ impl Watcher {
     }
 
     /// Collects all instruments again and again, a last time after all recorders have ended.
-    pub(crate) fn watch<R: Wait + Clock + Stop, B: Book>(
+    pub(crate) fn watch<R: Stop, B: Book>(
         &mut self,
         rt: &R,
         alloc: Global,
@@ -96,35 +96,29 @@ impl Watcher {
     // Compares each batch of a collection with the one before it.
     fn see<R: Stop, B: Book>(&mut self, rt: &R, provider: &Provider<B, NoGate>, batches: &[Batch]) {
         let instruments = provider.plan().catalogue().instruments();
-        check(
+        hold(
             rt,
-            0,
             batches.len() == instruments.len(),
             "a collection lacks a batch",
         );
         for (number, instrument) in instruments.iter().enumerate() {
             self.see_one(rt, number, instrument.kind, batches.get(number).or_fail(rt));
         }
-        self.figures.add(self.asked.place(), 1);
+        self.figures.add(COLLECTIONS, 1);
     }
 
     fn see_one<R: Stop>(&mut self, rt: &R, number: usize, kind: Kind, batch: &Batch) {
         let before = self.last.get(number);
-        let at = batch.instrument;
-        let goes_on = at as usize == number && follows(self.asked, before, batch);
-        check(rt, at, goes_on, "a batch does not go on where one ended");
+        let goes_on = batch.instrument as usize == number && follows(self.asked, before, batch);
+        hold(rt, goes_on, "a batch does not go on where one ended");
         if let (Asked::Cumulative, Kind::Counter | Kind::Histogram, Some(before)) = (
             self.asked, kind, before,
         ) {
-            check(
-                rt,
-                at,
-                rises(before, batch),
-                "a batch has less than one before it",
-            );
+            let has_risen = rises(before, batch);
+            hold(rt, has_risen, "a batch has less than one before it");
         }
         let sum = sum_of(batch);
-        check(rt, at, sum.is_some(), "streams have other sums");
+        hold(rt, sum.is_some(), "streams have other sums");
         let (own, sum) = (self.sums.get_mut(number).or_fail(rt), sum.or_fail(rt));
         *own = match self.asked {
             Asked::Delta => own.wrapping_add(sum),
@@ -138,16 +132,6 @@ impl Watcher {
         for (number, batch) in batches.into_iter().enumerate() {
             let kept = self.kept.get_mut(number).or_fail(rt);
             kept.push(batch).ok().or_fail(rt);
-        }
-    }
-}
-
-impl Asked {
-    // The place of the figure of its collections.
-    fn place(self) -> usize {
-        match self {
-            Asked::Delta => DELTAS,
-            Asked::Cumulative => CUMULATIVES,
         }
     }
 }

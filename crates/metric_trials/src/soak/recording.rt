@@ -1,10 +1,28 @@
 //! What the thread of a recorder does, and what it was told.
 use crate::asserted::{OrFail, Stop};
+use crate::soak::INSTRUMENTS;
 use crate::soak::figures::{BEYOND, CLOSED as REFUSED, Figures, GRANTS};
-use crate::soak::inputs::{ASKED, CLOSED, FIRST, INSTRUMENTS, LEAST, MORE, SECOND, VALUES};
+use metric_contents::{Attr, Refusal};
 use metric_history::Book;
-use metric_sdk::{Attr, NoGate, Provider, Recorder, Refusal};
-use std::sync::Wait;
+use metric_provider::{NoGate, Provider, Recorder};
+
+// The histogram, of which recorders ask for more than their budget, and the counter that is closed midway.
+const ASKED: u32 = 2;
+
+const CLOSED: u32 = 4;
+
+// The number of recordings for which a recorder asks at once.
+const MORE: u64 = 50;
+
+// Series are named by two keys: the first has one of so many values, the second the rest of that by the other number.
+const FIRST: u32 = 10;
+
+const SECOND: u32 = 3;
+
+// How far values go above the least that their instrument takes, and the least of each.
+const VALUES: u32 = 10;
+
+const LEAST: [i64; INSTRUMENTS] = [0, -5, 0, -5, 0, 0];
 
 /// What a recorder was told of an instrument, counted beside the seat.
 #[derive(Clone, Copy)]
@@ -43,7 +61,7 @@ impl Worker {
     }
 
     /// Makes so many recordings, in turn on each instrument. The first recorder closes an instrument midway.
-    pub(crate) fn work<R: Wait + Stop, B: Book>(
+    pub(crate) fn work<R: Stop, B: Book>(
         &mut self,
         rt: &R,
         provider: &Provider<B, NoGate>,
@@ -72,7 +90,7 @@ impl Worker {
     }
 
     // Makes a recording. Refused is what may not be.
-    fn record<R: Wait, B: Book>(
+    fn record<R: Stop, B: Book>(
         &mut self,
         rt: &R,
         provider: &Provider<B, NoGate>,
@@ -105,7 +123,7 @@ impl Worker {
     }
 
     // Asks for more of an instrument whose budget is spent. Only one has some to spare.
-    fn ask<R: Wait, B: Book>(
+    fn ask<R: Stop, B: Book>(
         &mut self,
         rt: &R,
         provider: &Provider<B, NoGate>,

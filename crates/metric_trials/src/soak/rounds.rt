@@ -1,25 +1,23 @@
 //! A round: all threads at once, and what they come to.
 use crate::asserted::{OrFail, Stop, hold};
-use crate::seats::{Seats, plan_of, started};
+use crate::inputs::Input;
+use crate::seats::{Seats, started};
 use crate::soak::ends::{Ended, settle};
 use crate::soak::figures::{Figures, ROUNDS};
-use crate::soak::inputs::CONFIG;
 use crate::soak::reading::{Signs, Watcher};
 use crate::soak::recording::Worker;
 use metric_history::Book;
-use metric_sdk::{Collector, NoGate, Provider, Recorder};
+use metric_provider::{Collector, NoGate, Provider, Recorder};
 use std::alloc::Global;
-use std::sync::Wait;
 use std::sync::atomic::{AtomicU64, Ordering};
 use std::thread;
 use std::thread::Threads;
-use std::time::{Clock, Instant};
+use std::time::Instant;
 
 /// What all rounds have.
 #[derive(Drop)]
 pub(crate) struct Setup {
-    pub catalogue: String,
-    pub recorders: u32,
+    pub input: Input,
     /// How many lanes an instrument may have.
     pub lanes: u32,
 }
@@ -32,7 +30,7 @@ enum Runner {
 }
 
 impl Runner {
-    fn run<R: Wait + Clock + Stop, B: Book>(
+    fn run<R: Stop, B: Book>(
         &mut self,
         rt: &R,
         alloc: Global,
@@ -51,7 +49,7 @@ impl Runner {
 
 /// Makes a round of so many recordings of each recorder, whose number of a run no other has, and compares what came of
 /// it. Its figures are added.
-pub(crate) fn round<R: Threads + Wait + Clock + Sync + Stop, B: Book + Send + Sync>(
+pub(crate) fn round<R: Threads + Sync + Stop, B: Book + Send + Sync>(
     rt: &R,
     alloc: Global,
     setup: &Setup,
@@ -59,18 +57,18 @@ pub(crate) fn round<R: Threads + Wait + Clock + Sync + Stop, B: Book + Send + Sy
     figures: &mut Figures,
 ) {
     figures.add(ROUNDS, 1);
-    let plan = plan_of(rt, alloc, &setup.catalogue, CONFIG);
+    let plan = setup.input.plan(rt, alloc);
     let seats = started(rt, alloc, plan, figures.rounds(), setup.lanes);
     let seats: Seats<B> = seats.ok().or_fail(rt);
     let (provider, recorders, collectors) = seats.into_all();
-    let mut runners = runners_of(rt, alloc, recorders, collectors);
     let signs = Signs {
         began: Instant::now(rt).or_fail(rt),
-        left: AtomicU64::new(u64::from(setup.recorders)),
+        left: AtomicU64::new(recorders.len() as u64),
         events,
     };
+    let mut runners = runners_of(rt, alloc, recorders, collectors);
     run_all(rt, alloc, &provider, &mut runners, &signs);
-    let plan = plan_of(rt, alloc, &setup.catalogue, CONFIG);
+    let plan = setup.input.plan(rt, alloc);
     settle(
         rt,
         alloc,
@@ -102,7 +100,7 @@ fn runners_of<R: Stop>(
 }
 
 // Lets each runner do its work in a thread of its own.
-fn run_all<R: Threads + Wait + Clock + Sync + Stop, B: Book + Send + Sync>(
+fn run_all<R: Threads + Sync + Stop, B: Book + Send + Sync>(
     rt: &R,
     alloc: Global,
     provider: &Provider<B, NoGate>,

@@ -1,6 +1,8 @@
 //! How a batch goes on where the one before it ended.
 use crate::seats::START;
-use metric_sdk::{Batch, Items, Point, PointValue, StreamPoints};
+use metric_aggregate::PointValue;
+use metric_base::Items;
+use metric_history::{Batch, Point, StreamPoints};
 
 /// What a reader asks for.
 #[derive(Clone, Copy, PartialEq, Eq)]
@@ -27,28 +29,17 @@ pub(crate) fn follows(asked: Asked, before: Option<&Batch>, batch: &Batch) -> bo
 /// Whether each series of a batch is in a later one, with no less.
 pub(crate) fn rises(before: &Batch, batch: &Batch) -> bool {
     let (old, new) = (before.streams.as_slice(), batch.streams.as_slice());
-    if old.len() != new.len() {
-        return false;
-    }
-    for (number, stream) in old.iter().enumerate() {
-        let is_kept = match new.get(number) {
-            Some(later) => keeps_points(stream, later),
-            None => false,
-        };
-        if !is_kept {
-            return false;
-        }
-    }
-    true
+    old.len() == new.len()
+        && old
+            .iter()
+            .zip(new)
+            .all(|(one, later)| keeps_points(one, later))
 }
 
 fn keeps_points(stream: &StreamPoints, later: &StreamPoints) -> bool {
-    for point in stream.points.as_slice() {
-        if !keeps_point(point, later.points.as_slice()) {
-            return false;
-        }
-    }
-    stream.stream == later.stream
+    let later_points = later.points.as_slice();
+    let points = stream.points.as_slice();
+    stream.stream == later.stream && points.iter().all(|one| keeps_point(one, later_points))
 }
 
 fn keeps_point(point: &Point, later: &[Point]) -> bool {
@@ -78,13 +69,7 @@ fn is_at_least(value: &PointValue, earlier: &PointValue) -> bool {
 
 fn are_at_least(counts: &Items<u64>, earlier: &Items<u64>) -> bool {
     let (counts, earlier) = (counts.as_slice(), earlier.as_slice());
-    for (number, then) in earlier.iter().enumerate() {
-        let now = counts.get(number).copied().unwrap_or(0);
-        if now < *then {
-            return false;
-        }
-    }
-    counts.len() == earlier.len()
+    counts.len() == earlier.len() && counts.iter().zip(earlier).all(|(now, then)| *now >= *then)
 }
 
 /// The sum of the points of each stream of a batch, 0 for last values; nothing where two streams differ.
