@@ -11,7 +11,6 @@ use Rattle.metric_contents.specs.Budgets.{amount_of}
 use Rattle.metric_contents.specs.KeyNames.{is_key}
 use Rattle.metric_contents.specs.Places.{place}
 use Rattle.metric_views.specs.declared.stream.Stream.{Stream}
-use Rattle.metric_advice.specs.declared.headroom.Headroom.{Headroom}
 use Rattle.metric_changes.specs.declared.change.Change.{Change}
 use Rattle.metric_changes.specs.declared.change.InstrumentPart.{InstrumentPart}
 use Rattle.metric_changes.specs.declared.change.StreamPart.{StreamPart}
@@ -19,12 +18,12 @@ use Rattle.metric_changes.specs.declared.keys.Way.{Way}
 use Rattle.metric_changes.specs.declared.keys.Way.TheVariants as ways
 use Rattle.metric_changes.specs.declared.named.Sort.{Sort}
 use Rattle.metric_changes.specs.declared.named.Sort.TheVariants as sorts
-use Rattle.metric_changes.specs.Changes.{Plan, change, change_by, changes_of, names, new_by, room_changes, sort_changes}
+use Rattle.metric_changes.specs.Changes.{Plan, change, change_by, changes_of, has_other_name, most_at, names, new_by, sort_changes, when_other}
 use Rattle.metric_changes.specs.Combined.{combination_changes, is_shut_out, lost_combination, lost_combinations}
-use Rattle.metric_changes.specs.Equal.{are_let_in, are_same, are_same_keys, has_each, is_equal, is_nil, is_same, is_same_as, is_same_budget, is_same_declared, is_same_key, is_same_key_as, is_same_room, is_same_stream, keeps_same}
+use Rattle.metric_changes.specs.Equal.{are_let_in, are_same, are_same_keys, has_each, is_equal, is_nil, is_same_as, is_same_budget, is_same_declared, is_same_key, is_same_key_as, is_same_number, is_same_stream}
 use Rattle.metric_changes.specs.Instruments.{all_declared_parts, budget, budget_with, declared_keys, declared_part, declared_parts, declared_with, instruments_differ, key_differences, key_named, key_with, lost_value, new_key, old_key, recorder_named}
 use Rattle.metric_changes.specs.Known.{place_of}
-use Rattle.metric_changes.specs.Parts.{all_parts, differences_with, differs, is_lost, key_changes, keys_of, lost_key, part_change, part_changes, when}
+use Rattle.metric_changes.specs.Parts.{all_parts, differences_with, differs, is_lost, keys_of, lost_key, part_change, part_changes, when}
 
 nil_append : {A : Type 0} (xs ys : List A) → is_nil (xs ++ ys) ≡ (is_nil xs && is_nil ys)
 nil_append [] ys = refl
@@ -93,10 +92,10 @@ declared_nil contents others n m (Some one) (Some other) =
     (nil_numbered (budget n m others.recorders) (λ (recorder : Recorder). is_same_budget n m recorder (recorder_named others.recorders recorder.name))
     (λ recorder. budget_nil n m recorder (recorder_named others.recorders recorder.1.name)) contents.recorders)))
 
-room_nil : (n m : ℕ) (one other : Option Headroom) → is_nil (room_changes n m one other) ≡ is_same_room one other
-room_nil n m None other = refl
-room_nil n m (Some one) None = refl
-room_nil n m (Some one) (Some other) = nil_when_not (one.most == other.most) _
+other_nil : (c : Change) (one other : Option ℕ) → is_nil (when_other c one other) ≡ is_same_number one other
+other_nil c None other = refl
+other_nil c (Some one) None = refl
+other_nil c (Some one) (Some other) = nil_when_not (one == other) c
 
 stream_nil : (contents others : Contents) (n m : ℕ) (one other : Option Stream) → is_nil (differences_with contents others n m one other) ≡ is_same_stream contents others one other
 stream_nil contents others n m None other = refl
@@ -109,13 +108,20 @@ stream_nil contents others n m (Some s) (Some t) =
     (nil_each (lost_key ways.New n m (keys_of contents s) t s) (λ (key : ℕ × Key). not (is_lost (keys_of contents s) t s key)) (λ key. nil_when (is_lost (keys_of contents s) t s key) _) (enumerate_from 0 (keys_of others t))))
 
 change_nil : (sort : Sort) (old new : Plan) (n : ℕ) (found : Option ℕ) → is_nil (change sort old new n found) ≡ is_same_as sort old new n found
+change_nil sorts.Readers old new n None = refl
+change_nil sorts.Readers old new n (Some m) = nil_when (has_other_name (slice_get old.config.readers n) (slice_get new.config.readers m)) _
 change_nil sorts.Streams old new n None = refl
-change_nil sorts.Streams old new n (Some m) = stream_nil old.contents new.contents n m (slice_get old.streams n) (slice_get new.streams m)
+change_nil sorts.Streams old new n (Some m) =
+    nil_append (differences_with old.contents new.contents n m (slice_get old.streams n) (slice_get new.streams m)) _ ∙ both
+    (stream_nil old.contents new.contents n m (slice_get old.streams n) (slice_get new.streams m))
+    (other_nil _ (slice_get old.series n) (slice_get new.series m))
+change_nil sorts.Collisions old new n None = refl
+change_nil sorts.Collisions old new n (Some m) = refl
 change_nil sorts.Instruments old new n None = refl
 change_nil sorts.Instruments old new n (Some m) =
     nil_append (declared_with old.contents new.contents n m (slice_get old.contents.instruments n) (slice_get new.contents.instruments m)) _ ∙ both
     (declared_nil old.contents new.contents n m (slice_get old.contents.instruments n) (slice_get new.contents.instruments m))
-    (room_nil n m (slice_get old.rooms n) (slice_get new.rooms m))
+    (other_nil _ (most_at old.rooms n) (most_at new.rooms m))
 change_nil sorts.Recorders old new n None = refl
 change_nil sorts.Recorders old new n (Some m) = refl
 
@@ -131,5 +137,7 @@ sort_nil sort old new =
 -- the law of `changes`
 pub nothing_differs : (old new : Plan) → is_nil (changes_of old new) ≡ is_equal old new
 nothing_differs old new =
-    nil_append (sort_changes sorts.Streams old new) _ ∙ both (sort_nil sorts.Streams old new)
-    (nil_append (sort_changes sorts.Instruments old new) _ ∙ both (sort_nil sorts.Instruments old new) (sort_nil sorts.Recorders old new))
+    nil_append (sort_changes sorts.Readers old new) _ ∙ both (sort_nil sorts.Readers old new)
+    (nil_append (sort_changes sorts.Streams old new) _ ∙ both (sort_nil sorts.Streams old new)
+    (nil_append (sort_changes sorts.Collisions old new) _ ∙ both (sort_nil sorts.Collisions old new)
+    (nil_append (sort_changes sorts.Instruments old new) _ ∙ both (sort_nil sorts.Instruments old new) (sort_nil sorts.Recorders old new))))

@@ -1,4 +1,5 @@
 mod Equals
 mod Got
-mod Lists
+mod KindNames
+pub mod Lists
 mod Told

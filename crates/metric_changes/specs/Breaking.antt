@@ -40,9 +40,15 @@ refuses declared_parts.Unlisted = false
 -- not; a key is required that could be left out; an instrument is of another kind; a budget or a
 -- spare is less.
 abbrev pub is_breaking : Change → Bool
+is_breaking (changes.ReaderGone old) = true
+is_breaking (changes.ReaderNew new) = false
+is_breaking (changes.ReaderRenamed old new) = false
+is_breaking (changes.CollisionGone old) = false
+is_breaking (changes.CollisionNew new) = true
 is_breaking (changes.StreamGone old) = true
 is_breaking (changes.StreamNew new) = false
 is_breaking (changes.StreamChanged old new part) = breaks part
+is_breaking (changes.SeriesChanged old new) = false
 is_breaking (changes.KeyGone old new key) = true
 is_breaking (changes.KeyNew old new key) = false
 is_breaking (changes.InstrumentGone old) = true

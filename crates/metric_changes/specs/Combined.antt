@@ -1,6 +1,6 @@
 -- Which combinations of an instrument another one refuses.
 use Rattle.std.specs.Prelude.{ℕ, ◌-◌, ◌==◌, Bool, true, false, List, [], ◌++◌, Option, Some, None}
-use Rattle.std.specs.Prelude.{Result, Ok, Err, if◌then◌else◌, slice_get}
+use Rattle.std.specs.Prelude.{Result, Err, if◌then◌else◌, slice_get}
 use Rattle.std.specs.List.{enumerate_from, filter_map, flat_map, zip}
 use Rattle.std.specs.Option.{option_map}
 use Rattle.metric_contents.specs.declared.contents.Contents.{Contents}

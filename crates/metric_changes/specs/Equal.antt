@@ -11,10 +11,9 @@ use Rattle.metric_contents.specs.Budgets.{amount_of}
 use Rattle.metric_contents.specs.KeyNames.{is_key}
 use Rattle.metric_contents.specs.Places.{place}
 use Rattle.metric_views.specs.declared.stream.Stream.{Stream}
-use Rattle.metric_advice.specs.declared.headroom.Headroom.{Headroom}
 use Rattle.metric_changes.specs.declared.named.Sort.{Sort}
 use Rattle.metric_changes.specs.declared.named.Sort.TheVariants as sorts
-use Rattle.metric_changes.specs.Changes.{Plan, names}
+use Rattle.metric_changes.specs.Changes.{Plan, has_other_name, most_at, names}
 use Rattle.metric_changes.specs.Combined.{is_shut_out}
 use Rattle.metric_changes.specs.Instruments.{all_declared_parts, instruments_differ, is_turned, key_named}
 use Rattle.metric_changes.specs.Instruments.{recorder_named}
@@ -65,9 +64,9 @@ is_same_declared contents others old new (Some one) (Some other) =
     contents.recorders))
 is_same_declared contents others old new one other = true
 
-abbrev pub is_same_room : Option Headroom → Option Headroom → Bool
-is_same_room (Some one) (Some other) = one.most == other.most
-is_same_room one other = true
+abbrev pub is_same_number : Option ℕ → Option ℕ → Bool
+is_same_number (Some one) (Some other) = one == other
+is_same_number one other = true
 
 -- the keys that one stream keeps are those that the other does
 abbrev pub keeps_same : List Key → List Key → Stream → Stream → Bool
@@ -84,13 +83,17 @@ is_same_stream contents others s t = true
 
 -- the old one of a number and the new one of another
 abbrev pub is_same : Sort → Plan → Plan → ℕ → ℕ → Bool
+is_same sorts.Readers old new number other =
+    not (has_other_name (slice_get old.config.readers number) (slice_get new.config.readers other))
 is_same sorts.Streams old new number other =
     is_same_stream old.contents new.contents (slice_get old.streams number)
     (slice_get new.streams other)
+    && is_same_number (slice_get old.series number) (slice_get new.series other)
+is_same sorts.Collisions old new number other = true
 is_same sorts.Instruments old new number other =
     is_same_declared old.contents new.contents number other
     (slice_get old.contents.instruments number) (slice_get new.contents.instruments other)
-    && is_same_room (slice_get old.rooms number) (slice_get new.rooms other)
+    && is_same_number (most_at old.rooms number) (most_at new.rooms other)
 is_same sorts.Recorders old new number other = true
 
 abbrev pub is_same_as : Sort → Plan → Plan → ℕ → Option ℕ → Bool
@@ -105,12 +108,15 @@ are_same sort old new =
     && list_all (λ name. is_some (place_of (names sort old old) name)) (names sort old new)
 
 -- # where nothing differs (profile)
--- The streams, the instruments and the recorders of both are the same, in whatever order they, the
--- keys, the values, the combinations and the budgets stand.
+-- The readers, the streams, those that have the name of another, the instruments and the recorders
+-- of both are the same, in whatever order they, the keys, the values, the combinations and the
+-- budgets stand.
 abbrev pub is_equal : Plan → Plan → Bool
 is_equal old new =
-    are_same sorts.Streams old new
-    && (are_same sorts.Instruments old new && are_same sorts.Recorders old new)
+    are_same sorts.Readers old new
+    && (are_same sorts.Streams old new
+    && (are_same sorts.Collisions old new
+    && (are_same sorts.Instruments old new && are_same sorts.Recorders old new)))
 
 abbrev pub is_nil : {A : Type 0} → List A → Bool
 is_nil [] = true

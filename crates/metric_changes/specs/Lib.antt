@@ -1,8 +1,9 @@
+pub mod Breaking
+pub mod Changes
+pub mod Combined
+pub mod Equal
+pub mod Instruments
+pub mod Kinds
 pub mod Known
 pub mod Parts
-pub mod Combined
-pub mod Instruments
 pub mod Placed
-pub mod Changes
-pub mod Equal
-pub mod Breaking

@@ -2,10 +2,37 @@
 ghost use Rattle.std.specs.Prelude.{◌≡◌};
 ghost use Rattle.metric_changes.specs.Breaking.{breaks, is_breaking, refuses};
 
-/// What differs between an old catalogue and config and new ones. Streams, instruments, keys, values and recorders have
-/// their numbers, each in its own file.
+/// What differs between an old catalogue and config and new ones. Readers, streams, instruments, keys, values and
+/// recorders have their numbers, each in its own file.
 #[derive(Clone, Copy, Drop)]
 pub enum Change {
+    /// The old reader is none of the new ones.
+    ReaderGone {
+        /// The number of the old reader.
+        old: usize,
+    },
+    /// The new reader is none of the old ones.
+    ReaderNew {
+        /// The number of the new reader.
+        new: usize,
+    },
+    /// A reader has another name.
+    ReaderRenamed {
+        /// The number of the old reader.
+        old: usize,
+        /// The number of the new one.
+        new: usize,
+    },
+    /// The old stream has the name of an earlier one, and no new one has its name so.
+    CollisionGone {
+        /// The number of the old stream.
+        old: usize,
+    },
+    /// The new stream has the name of an earlier one, and no old one has its name so.
+    CollisionNew {
+        /// The number of the new stream.
+        new: usize,
+    },
     /// The old stream is none of the new ones.
     StreamGone {
         /// The number of the old stream.
@@ -24,6 +51,13 @@ pub enum Change {
         new: usize,
         /// What differs.
         part: StreamPart,
+    },
+    /// How many series a stream may have is another number.
+    SeriesChanged {
+        /// The number of the old stream.
+        old: usize,
+        /// The number of the new one.
+        new: usize,
     },
     /// A stream no longer keeps a key.
     KeyGone {
@@ -227,9 +261,15 @@ impl Change {
         ensures { result ≡ is_breaking self.now }
     {
         match *self {
+            Change::ReaderGone { .. } => true,
+            Change::ReaderNew { .. } => false,
+            Change::ReaderRenamed { .. } => false,
+            Change::CollisionGone { .. } => false,
+            Change::CollisionNew { .. } => true,
             Change::StreamGone { .. } => true,
             Change::StreamNew { .. } => false,
             Change::StreamChanged { part, .. } => breaks(part),
+            Change::SeriesChanged { .. } => false,
             Change::KeyGone { .. } => true,
             Change::KeyNew { .. } => false,
             Change::InstrumentGone { .. } => true,

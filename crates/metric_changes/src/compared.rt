@@ -9,10 +9,12 @@ use crate::side::Side;
 use metric_base::Items;
 use std::alloc::{AllocError, Global};
 
-/// What differs between an old catalogue and config and new ones, in this order: each old stream that is none of the
-/// new ones, or in what parts it differs from the new one; the new streams that are none of the old ones; and the same
-/// of instruments, with their keys, values and budgets, and of recorders. Streams are the same where their readers have one name, their meters one name, version and schema
-/// URL, and they one name without case (Metrics data model, identity); of several the first counts. There is none exactly
+/// What differs between an old catalogue and config and new ones, in this order: each old reader that is none of the new
+/// ones, or has another name; the new readers that are none of the old ones; the same of streams, with the parts in which
+/// they differ; which of them have the name of an earlier one, and had not; and the same of instruments, with their keys,
+/// values and budgets, and of recorders. Streams are the same where their readers are, their meters have one name, version
+/// and schema URL, and they one name without case (Metrics data model, identity); of several the first counts. Readers
+/// are the same that have one name, or stand at one place, if no other one has their names. There is none exactly
 /// where both are equal in all that is compared, in whatever order it stands. Takes n log n for n streams, and a step for
 /// each value and each key of a combination. Fails only when out of memory.
 pub fn changes(alloc: Global, old: Side<'_>, new: Side<'_>) -> Result<Items<Change>, AllocError>
@@ -30,7 +32,9 @@ fn all_changes(alloc: Global, old: Side<'_>, new: Side<'_>) -> Result<Items<Chan
         ≡ changes_of (plan_of old.entry) (plan_of new.entry)) }
 {
     let mut changes = Items::new(alloc);
+    add_sort(alloc, &mut changes, Sort::Readers, old, new)?;
     add_sort(alloc, &mut changes, Sort::Streams, old, new)?;
+    add_sort(alloc, &mut changes, Sort::Collisions, old, new)?;
     add_sort(alloc, &mut changes, Sort::Instruments, old, new)?;
     add_sort(alloc, &mut changes, Sort::Recorders, old, new)?;
     Ok(changes)

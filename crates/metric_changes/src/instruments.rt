@@ -1,10 +1,10 @@
 //! What an old instrument differs in.
-ghost use Rattle.std.specs.Prelude.{◌≡◌, ◌++◌, OnOk, Some, slice_get};
-ghost use Rattle.metric_changes.specs.Changes.{instrument_change, instrument_differences, plan_of, room_changes};
+ghost use Rattle.std.specs.Prelude.{◌≡◌, ◌++◌, OnOk};
+ghost use Rattle.metric_changes.specs.Changes.{instrument_change, instrument_differences, most_at, plan_of};
 
 use crate::change::Change;
 use crate::declared::add_declared;
-use crate::parts::{Numbers, add_when};
+use crate::parts::add_when_other;
 use crate::side::Side;
 use metric_advice::Headroom;
 use metric_base::Items;
@@ -43,42 +43,18 @@ fn add_differences(
         (plan_of new.entry) number other) }
 {
     add_declared(alloc, changes, old.catalogue, new.catalogue, number, other)?;
-    add_rooms(changes, old.rooms, new.rooms, number, other)
-}
-
-fn add_rooms(
-    changes: &mut Items<Change>,
-    old: &[Headroom],
-    new: &[Headroom],
-    number: usize,
-    other: usize,
-) -> Result<(), AllocError>
-    ensures { OnOk result (changes.new ≡ changes.old
-        ++ room_changes number other (slice_get old.now number) (slice_get new.now other)) }
-{
-    let of = Numbers {
+    let change = Change::HeadroomChanged {
         old: number,
         new: other,
     };
-    match old.get(number) {
-        None => Ok(()),
-        Some(one) => match new.get(other) {
-            None => Ok(()),
-            Some(another) => add_room(changes, of, one, another),
-        },
-    }
+    let most = most_at(old.rooms, number);
+    add_when_other(changes, change, most, most_at(new.rooms, other))
 }
 
-fn add_room(
-    changes: &mut Items<Change>,
-    of: Numbers,
-    one: &Headroom,
-    another: &Headroom,
-) -> Result<(), AllocError>
-    ensures { OnOk result (changes.new ≡ changes.old
-        ++ room_changes of.old of.new (Some one.now) (Some another.now)) }
+// The greatest sum of budgets and spare that is safe for the instrument of a number.
+fn most_at(rooms: &[Headroom], number: usize) -> Option<u128>
+    ensures { result ≡ most_at rooms.now number }
 {
-    let Numbers { old, new } = of;
-    let has_other = one.most != another.most;
-    add_when(changes, has_other, Change::HeadroomChanged { old, new })
+    let room = rooms.get(number)?;
+    Some(u128::from(room.most))
 }

@@ -1,5 +1,5 @@
-//! What a change of a catalogue or a config does: streams and instruments that come, go or differ, keys that go, and
-//! budgets that differ; and which of that breaks what is built on the streams.
+//! What a change of a catalogue or a config does: readers, streams and instruments that come, go or differ, keys that go,
+//! and budgets that differ; and which of that breaks what is built on the streams.
 //!
 //! `specs/Known.antt` says what a stream is known by in both, and `specs/Changes.antt` what the changes are.
 #![tactic(auto)]
@@ -13,14 +13,17 @@ mod declared;
 mod each;
 mod instruments;
 mod keys;
+mod kinds;
 mod named;
 mod names;
 mod numbers;
 mod parts;
 mod places;
+mod readers;
 mod side;
 mod streams;
 
 pub use change::{Change, InstrumentPart, StreamPart};
 pub use compared::changes;
+pub use kinds::is_change;
 pub use side::Side;

@@ -2,13 +2,14 @@
 ghost use Rattle.std.specs.Prelude.{◌≡◌, ◌++◌, OnOk};
 ghost use Rattle.std.specs.BTreeMap.{get_by_text};
 ghost use Rattle.std.specs.List.{enumerate_from, flat_map};
-ghost use Rattle.metric_changes.specs.Changes.{change, change_by, coming, new_by, plan_of, recorder_change, sort_changes};
+ghost use Rattle.metric_changes.specs.Changes.{change, change_by, coming, new_by, plan_of, sort_changes, unless_found};
 
 use crate::change::Change;
 use crate::instruments::add_instrument_change;
 use crate::names::names;
 use crate::parts::add_when;
 use crate::places::{Places, place_in, places_of};
+use crate::readers::add_reader_change;
 use crate::side::Side;
 use crate::streams::add_stream_change;
 use metric_base::{Items, Text};
@@ -17,7 +18,10 @@ use std::alloc::{AllocError, Global};
 /// What is known by names in both.
 #[derive(Clone, Copy, Drop)]
 pub(crate) enum Sort {
+    Readers,
     Streams,
+    // Streams that have the name of an earlier one.
+    Collisions,
     Instruments,
     Recorders,
 }
@@ -84,27 +88,23 @@ fn add_change(
         ++ change sort (plan_of old.entry) (plan_of new.entry) number found) }
 {
     match sort {
+        Sort::Readers => add_reader_change(changes, old.config, new.config, number, found),
         Sort::Streams => add_stream_change(changes, old, new, number, found),
+        Sort::Collisions => add_unless_found(changes, Change::CollisionGone { old: number }, found),
         Sort::Instruments => add_instrument_change(alloc, changes, old, new, number, found),
-        Sort::Recorders => add_recorder_change(changes, number, found),
+        Sort::Recorders => add_unless_found(changes, Change::RecorderGone { old: number }, found),
     }
 }
 
-// Puts last that the old recorder of a number goes, where no new one is found.
-fn add_recorder_change(
+// Puts a change last where no new one is found.
+fn add_unless_found(
     changes: &mut Items<Change>,
-    number: usize,
+    change: Change,
     found: Option<usize>,
 ) -> Result<(), AllocError>
-    ensures { OnOk result (changes.new ≡ changes.old ++ recorder_change number found) }
+    ensures { OnOk result (changes.new ≡ changes.old ++ unless_found change found) }
 {
-    match found {
-        Some(_) => Ok(()),
-        None => {
-            changes.push(Change::RecorderGone { old: number })?;
-            Ok(())
-        }
-    }
+    add_when(changes, found.is_none(), change)
 }
 
 // Puts a change last for each new one that is none of the old ones.
@@ -128,7 +128,9 @@ fn coming(sort: Sort, new: usize) -> Change
     ensures { result ≡ coming sort new }
 {
     match sort {
+        Sort::Readers => Change::ReaderNew { new },
         Sort::Streams => Change::StreamNew { new },
+        Sort::Collisions => Change::CollisionNew { new },
         Sort::Instruments => Change::InstrumentNew { new },
         Sort::Recorders => Change::RecorderNew { new },
     }

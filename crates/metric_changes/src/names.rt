@@ -1,10 +1,13 @@
 //! What streams and instruments are known by.
-ghost use Rattle.std.specs.Prelude.{◌≡◌, IfOk, map, slice_index_or, unwrap_or, slice_get};
-ghost use Rattle.metric_changes.specs.Changes.{instrument_names, names, plan_of, stream_names};
+ghost use Rattle.std.specs.Prelude.{◌≡◌, IfOk, decimal, map, slice_index_or, unwrap_or, slice_get};
+ghost use Rattle.std.specs.BTreeMap.{get_by_text};
+ghost use Rattle.std.specs.List.{enumerate_from};
+ghost use Rattle.metric_changes.specs.Changes.{collision_names, instrument_names, is_first, meter_numbers, names, plan_of, reader_names, repeated, stream_names};
 ghost use Rattle.metric_changes.specs.Known.{instrument_name, known_text, meter_with, stream_name};
 
 use crate::named::Sort;
-use crate::numbers::numbers;
+use crate::numbers::{Renaming, numbers};
+use crate::places::{Places, place_in, places_of};
 use crate::side::Side;
 use metric_base::{Copied, Items, Text};
 use metric_catalogue::Catalogue;
@@ -23,9 +26,97 @@ pub(crate) fn names(
     ensures { IfOk result (λ all. all ≡ names sort (plan_of old.entry) (plan_of side.entry)) }
 {
     match sort {
+        Sort::Readers => reader_names(alloc, old, side),
         Sort::Streams => stream_names(alloc, old, side),
+        Sort::Collisions => collision_names(alloc, old, side),
         Sort::Instruments => instrument_names(alloc, old, side),
         Sort::Recorders => recorder_names(alloc, side.catalogue.recorders()),
+    }
+}
+
+// The numbers of readers.
+#[tactic(auto, unfolding(crate::specs::Changes::reader_names))]
+fn reader_names(alloc: Global, old: Side<'_>, side: Side<'_>) -> Result<Items<Text>, AllocError>
+    ensures { IfOk result (λ names. names ≡
+        reader_names (plan_of old.entry) (plan_of side.entry)) }
+{
+    let readers = numbers(
+        alloc,
+        old.config.readers(),
+        side.config.readers(),
+        Renaming::Allowed,
+    )?;
+    numerals(alloc, readers.as_slice())
+}
+
+fn numerals(alloc: Global, numbers: &[usize]) -> Result<Items<Text>, AllocError>
+    ensures { IfOk result (λ names. names ≡ map decimal numbers.now) }
+{
+    let mut names = Items::new(alloc);
+    for number in numbers {
+        names.push(numeral(alloc, *number)?)?;
+    }
+    Ok(names)
+}
+
+fn numeral(alloc: Global, number: usize) -> Result<Text, AllocError>
+    ensures { IfOk result (λ name. name ≡ decimal number) }
+{
+    let text = format!(in alloc; "{number}")?;
+    Ok(Text::from_string(text))
+}
+
+// What the streams are known by that have the name of an earlier one. Nothing stands for each other one, and last, so
+// that nothing is known in both.
+#[tactic(auto, unfolding(crate::specs::Changes::collision_names))]
+fn collision_names(alloc: Global, old: Side<'_>, side: Side<'_>) -> Result<Items<Text>, AllocError>
+    ensures { IfOk result (λ names. names ≡
+        collision_names (plan_of old.entry) (plan_of side.entry)) }
+{
+    let streams = stream_names(alloc, old, side)?;
+    let places = places_of(alloc, streams.as_slice())?;
+    let mut names = repeated_names(alloc, streams.as_slice(), &places)?;
+    names.push(Text::new(alloc, "")?)?;
+    Ok(names)
+}
+
+fn repeated_names(
+    alloc: Global,
+    streams: &[Text],
+    places: &Places,
+) -> Result<Items<Text>, AllocError>
+    ensures { IfOk result (λ names. names
+        ≡ map (repeated (get_by_text places.now)) (enumerate_from 0 streams.now)) }
+{
+    let mut names = Items::new(alloc);
+    for (number, stream) in streams.iter().enumerate() {
+        names.push(repeated(alloc, places, number, stream)?)?;
+    }
+    Ok(names)
+}
+
+fn repeated(
+    alloc: Global,
+    places: &Places,
+    number: usize,
+    stream: &Text,
+) -> Result<Text, AllocError>
+    ensures { IfOk result (λ name. name
+        ≡ repeated (get_by_text places.now) (number, stream.now)) }
+{
+    if is_first(places, number, stream.as_str()) {
+        Text::new(alloc, "")
+    } else {
+        stream.copy(alloc)
+    }
+}
+
+fn is_first(places: &Places, number: usize, name: &str) -> bool
+    ensures { result ≡ is_first (get_by_text places.now) (number, name.now) }
+{
+    match place_in(places, name) {
+        Some(place) => place == number,
+        None => false,
     }
 }
 
@@ -34,14 +125,31 @@ fn stream_names(alloc: Global, old: Side<'_>, side: Side<'_>) -> Result<Items<Te
     ensures { IfOk result (λ names. names ≡
         stream_names (plan_of old.entry) (plan_of side.entry)) }
 {
-    let readers = numbers(alloc, old.config.readers(), side.config.readers())?;
-    let meters = numbers(alloc, old.catalogue.meters(), side.catalogue.meters())?;
+    let readers = numbers(
+        alloc,
+        old.config.readers(),
+        side.config.readers(),
+        Renaming::Allowed,
+    )?;
+    let meters = meter_numbers(alloc, old, side)?;
     names_of(
         alloc,
         side.catalogue,
         side.streams,
         readers.as_slice(),
         meters.as_slice(),
+    )
+}
+
+fn meter_numbers(alloc: Global, old: Side<'_>, side: Side<'_>) -> Result<Items<usize>, AllocError>
+    ensures { IfOk result (λ meters. meters ≡
+        meter_numbers (plan_of old.entry) (plan_of side.entry)) }
+{
+    numbers(
+        alloc,
+        old.catalogue.meters(),
+        side.catalogue.meters(),
+        Renaming::Refused,
     )
 }
 
@@ -113,7 +221,7 @@ fn instrument_names(alloc: Global, old: Side<'_>, side: Side<'_>) -> Result<Item
     ensures { IfOk result (λ names. names ≡
         instrument_names (plan_of old.entry) (plan_of side.entry)) }
 {
-    let meters = numbers(alloc, old.catalogue.meters(), side.catalogue.meters())?;
+    let meters = meter_numbers(alloc, old, side)?;
     names_of_instruments(alloc, side.catalogue.instruments(), meters.as_slice())
 }
 

@@ -5,6 +5,7 @@ ghost use Rattle.std.specs.Ordering.{int_eq};
 ghost use Rattle.std.specs.Str.{bytes_eq};
 ghost use Rattle.metric_names.specs.Names.{folded};
 ghost use Rattle.metric_views.specs.Selection.{is_kind};
+ghost use Rattle.metric_changes.specs.Changes.{when_other};
 ghost use Rattle.metric_changes.specs.Parts.{all_parts, differs, has_other_boundaries, is_alike, is_same_temporality, keeps_boundaries, part_changes, source_name, when};
 
 use crate::change::{Change, StreamPart};
@@ -39,6 +40,21 @@ pub(crate) fn add_when(
         changes.push(change)?;
     }
     Ok(())
+}
+
+/// Puts a change last, where both numbers are there and differ.
+pub(crate) fn add_when_other(
+    changes: &mut Items<Change>,
+    change: Change,
+    old: Option<u128>,
+    new: Option<u128>,
+) -> Result<(), AllocError>
+    ensures { OnOk result (changes.new ≡ changes.old ++ when_other change old new) }
+{
+    match (old, new) {
+        (Some(one), Some(other)) => add_when(changes, one != other, change),
+        _ => Ok(()),
+    }
 }
 
 /// Puts a change last for each part in which two streams differ.

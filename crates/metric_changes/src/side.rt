@@ -12,6 +12,8 @@ pub struct Side<'s> {
     pub config: &'s Config,
     /// The streams that they give.
     pub streams: &'s [Stream],
+    /// How many series each of them may have.
+    pub series: &'s [u128],
     /// How often each instrument may be recorded.
     pub rooms: &'s [Headroom],
 }

@@ -1,11 +1,11 @@
 //! What an old stream differs in.
 ghost use Rattle.std.specs.Prelude.{◌≡◌, ◌++◌, OnOk, Some, slice_get};
-ghost use Rattle.metric_changes.specs.Changes.{plan_of, stream_change};
+ghost use Rattle.metric_changes.specs.Changes.{plan_of, stream_change, stream_differences};
 ghost use Rattle.metric_changes.specs.Parts.{differences_with};
 
 use crate::change::Change;
 use crate::keys::{add_keys, with_keys};
-use crate::parts::{Numbers, Sourced, add_parts};
+use crate::parts::{Numbers, Sourced, add_parts, add_when_other};
 use crate::side::Side;
 use metric_base::Items;
 use metric_views::Stream;
@@ -23,7 +23,7 @@ pub(crate) fn add_stream_change(
         (plan_of new.entry) number found) }
 {
     match found {
-        Some(other) => add_differences(changes, old, new, number, other),
+        Some(other) => add_stream_differences(changes, old, new, number, other),
         None => {
             changes.push(Change::StreamGone { old: number })?;
             Ok(())
@@ -31,7 +31,32 @@ pub(crate) fn add_stream_change(
     }
 }
 
-// Puts the differences of the streams of two numbers last.
+fn add_stream_differences(
+    changes: &mut Items<Change>,
+    old: Side<'_>,
+    new: Side<'_>,
+    number: usize,
+    other: usize,
+) -> Result<(), AllocError>
+    ensures { OnOk result (changes.new ≡ changes.old ++ stream_differences (plan_of old.entry)
+        (plan_of new.entry) number other) }
+{
+    add_differences(changes, old, new, number, other)?;
+    let change = Change::SeriesChanged {
+        old: number,
+        new: other,
+    };
+    let series = series_at(old.series, number);
+    add_when_other(changes, change, series, series_at(new.series, other))
+}
+
+fn series_at(series: &[u128], number: usize) -> Option<u128>
+    ensures { result ≡ slice_get series.now number }
+{
+    series.get(number).copied()
+}
+
+// Puts the differences of the streams of two numbers last, but for how many series they may have.
 fn add_differences(
     changes: &mut Items<Change>,
     old: Side<'_>,

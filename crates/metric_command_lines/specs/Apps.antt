@@ -111,14 +111,15 @@ compared_app =
     with_rule (with_rule old_app (file_rule (codes "catalogue") true))
     (file_rule (codes "config") true)
 
--- the option of what is denied of a change
-abbrev pub denied_rule : Rule
-denied_rule = record (text_rule (codes "denied")) { long = Some (codes "deny") }
-
 abbrev pub diff_app : App
 diff_app =
     with_rule
-    (with_rule (with_rule compared_app (text_rule (codes "certificate"))) denied_rule)
+    (with_rule
+    (with_rule
+    (with_rule (with_rule compared_app (text_rule (codes "certificate")))
+    (text_rule (codes "accepted")))
+    (texts_rule (codes "deny")))
+    (texts_rule (codes "allow")))
     (flag_rule (codes "json"))
 
 -- the option of a file of an old pair

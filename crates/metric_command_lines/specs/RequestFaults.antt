@@ -5,7 +5,7 @@ use Rattle.clap.specs.declared.error.ErrorKind.{ErrorKind}
 use Rattle.clap.specs.declared.error.ErrorKind.TheVariants.{DisplayHelp, DisplayVersion}
 use Rattle.clap.specs.declared.error.ErrorKind.TheVariants.{OutOfMemory}
 use Rattle.metric_command_lines.specs.Apps.{program_app}
-use Rattle.metric_command_lines.specs.Requests.{resource_asked}
+use Rattle.metric_command_lines.specs.Requests.{resource_asked, task_of}
 use Rattle.metric_command_lines.specs.declared.wormweekly.fault.Misuse.{Misuse}
 use Rattle.metric_command_lines.specs.declared.wormweekly.fault.RequestFault.{RequestFault}
 use Rattle.metric_command_lines.specs.declared.wormweekly.fault.RequestFault.TheVariants.{Told, Usage, Nothing, Misused}
@@ -60,14 +60,15 @@ IsMisuse Memory asked = Unit {0}
 
 -- The command that words name, with its arguments, is one that may be asked for.
 abbrev pub IsAllowed : Option (Text × List Row) → Type 0
-IsAllowed named = IsSomeAnd named (λ n. IsOk (resource_asked n.1))
+IsAllowed named = IsSomeAnd named (λ n. IsOk (resource_asked (task_of n.0) n.1))
 
 -- No command is named; or an option of it is misused; or memory ran out.
 abbrev pub IsNotAsked : RequestFault → Option (Text × List Row) → Type 0
 IsNotAsked (Told text) named = ⊥
 IsNotAsked (Usage text) named = ⊥
 IsNotAsked Nothing named = named ≡ None
-IsNotAsked (Misused misuse) named = IsSomeAnd named (λ n. resource_asked n.1 ≡ Err misuse)
+IsNotAsked (Misused misuse) named =
+    IsSomeAnd named (λ n. resource_asked (task_of n.0) n.1 ≡ Err misuse)
 IsNotAsked Memory named = Unit {0}
 
 -- The fault says why the words ask for nothing: clap refuses them, or it takes them and they name

@@ -8,6 +8,7 @@ use Rattle.std.specs.Str.{bytes_eq}
 use Rattle.clap.specs.Words.{Row, Text, all_of, first_of}
 use Rattle.metric_base.specs.Steps.{◌>>=◌, require}
 use Rattle.metric_advice.specs.Kinds.{is_kind}
+use Rattle.metric_changes.specs.Kinds.{is_change}
 use Rattle.metric_contents.specs.declared.attributes.OwnedAttr.{OwnedAttr}
 use Rattle.metric_command_lines.specs.Attributes.{resource_in}
 use Rattle.metric_command_lines.specs.Numbers.{number_in}
@@ -75,21 +76,27 @@ reads_else rows = is_some (first_of (codes "reader") rows) && not (is_page (form
 abbrev pub words_in : Text → List Row → List Text
 words_in id rows = unwrap_or (all_of id rows) []
 
--- a word is a kind of remark
-abbrev pub is_concern : Text → Bool
-is_concern word = bytes_eq word (codes "exposure") || is_kind word
+-- a word is a kind of what the command tells: of change, or of remark
+abbrev pub is_concern : Task → Text → Bool
+is_concern Diff word = is_change word
+is_concern task word = bytes_eq word (codes "exposure") || is_kind word
 
--- it is that, or stands for all
-abbrev pub is_denied : Text → Bool
-is_denied word = bytes_eq word (codes "remarks") || is_concern word
+-- the word for all that may be denied
+abbrev pub all_word : Task → Text
+all_word Diff = codes "breaking"
+all_word task = codes "remarks"
 
--- a use of `--deny` names neither
-abbrev pub denies_else : List Row → Bool
-denies_else rows = list_any (λ word. not (is_denied word)) (words_in (codes "deny") rows)
+abbrev pub is_denied : Task → Text → Bool
+is_denied task word = bytes_eq word (all_word task) || is_concern task word
 
--- a use of `--allow` names no kind of remark
-abbrev pub allows_else : List Row → Bool
-allows_else rows = list_any (λ word. not (is_concern word)) (words_in (codes "allow") rows)
+-- a use of `--deny` names neither a kind nor all
+abbrev pub denies_else : Task → List Row → Bool
+denies_else task rows = list_any (λ word. not (is_denied task word)) (words_in (codes "deny") rows)
+
+-- a use of `--allow` names no kind
+abbrev pub allows_else : Task → List Row → Bool
+allows_else task rows =
+    list_any (λ word. not (is_concern task word)) (words_in (codes "allow") rows)
 
 abbrev pub concerns_in : List Row → Concerns
 concerns_in rows = record {
@@ -142,6 +149,7 @@ files_in rows = record {
   catalogue = text_in (codes "catalogue") rows;
   config = text_in (codes "config") rows;
   certificate = certificate_in rows;
+  accepted = first_of (codes "accepted") rows;
   script = script_in rows;
   output = output_of (first_of (codes "output") rows);
 }
@@ -156,16 +164,13 @@ options_in rows = record {
   rate = number_in (first_of (codes "rate") rows);
   instances = number_in (first_of (codes "instances") rows);
   lasts = number_in (first_of (codes "lasts") rows);
-  deny_breaking = has_word (codes "denied") (codes "breaking") rows;
 }
 
 -- the resource that is asked for, or the first misuse of an option
-unfoldable pub resource_asked : List Row → Result (List OwnedAttr) Misuse
-resource_asked rows = do
-  _ ← require (not (denies_else rows)) Deny
-  _ ← require (not (is_some (first_of (codes "denied") rows)
-      && not (has_word (codes "denied") (codes "breaking") rows))) misuses.Change
-  _ ← require (not (allows_else rows)) Allow
+unfoldable pub resource_asked : Task → List Row → Result (List OwnedAttr) Misuse
+resource_asked task rows = do
+  _ ← require (not (denies_else task rows)) Deny
+  _ ← require (not (allows_else task rows)) Allow
   _ ← require (not (outlets_else rows)) Outlet
   _ ← require (not (forms_else rows)) misuses.Form
   _ ← require (not (is_some (first_of (codes "as") rows)
@@ -184,6 +189,6 @@ request_in named =
       files = files_in named.1;
       options = options_in named.1;
       concerns = concerns_in named.1;
-      resource = result_unwrap_or (resource_asked named.1) [];
+      resource = result_unwrap_or (resource_asked (task_of named.0) named.1) [];
       reader = first_of (codes "reader") named.1;
     }

@@ -11,6 +11,7 @@ mod report_command;
 mod request;
 mod standard;
 
+pub use commands::VERSION;
 pub use fault::{Misuse, RequestFault};
 pub use reading::request_of;
 pub use request::{Concerns, Files, Form, Options, Outlets, Request, Task};

@@ -49,10 +49,39 @@ pub(crate) fn words_of_nothing(
                 "view {view} selects no instrument: {instrument} comes nearest, and {missed}"
             )
         }
-        None => format!(in alloc;
-            "view {view} selects no instrument: none has such a name as field \"instrument_name\" says"
-        ),
+        None => words_of_no_name(alloc, pair.catalogue.instruments(), view, &own.criteria),
     }
+}
+
+// What is told where no instrument has such a name, with the name that may have been meant.
+fn words_of_no_name(
+    alloc: Global,
+    instruments: &[Instrument],
+    view: u32,
+    criteria: &Criteria,
+) -> Result<String, AllocError> {
+    let mut words = format!(in alloc;
+        "view {view} selects no instrument: none has such a name as field \"instrument_name\" says"
+    )?;
+    if let Some(name) = near_name(alloc, instruments, criteria)? {
+        write!(words, "; did you mean {name}?")?;
+    }
+    Ok(words)
+}
+
+fn near_name<'t>(
+    alloc: Global,
+    instruments: &'t [Instrument],
+    criteria: &Criteria,
+) -> Result<Option<&'t str>, AllocError> {
+    let Some(pattern) = &criteria.instrument_name else {
+        return Ok(None);
+    };
+    let mut names = Vec::new(alloc);
+    for instrument in instruments {
+        names.push(instrument.name.get().as_str())?;
+    }
+    Ok(metric_near::nearest(pattern.as_str(), &names))
 }
 
 fn has_name(criteria: &Criteria, instrument: &Instrument) -> bool {

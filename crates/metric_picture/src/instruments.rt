@@ -118,7 +118,7 @@ struct Group {
     silent: usize,
 }
 
-/// A box for the instruments of a meter and a kind.
+/// A box for the instruments of a meter and a kind, with their names.
 pub(crate) fn grouped_instruments(
     alloc: Global,
     catalogue: &Catalogue,
@@ -129,7 +129,31 @@ pub(crate) fn grouped_instruments(
     for group in groups.iter() {
         slots.nodes.push(group_node(alloc, catalogue, *group)?)?;
     }
+    add_names(
+        alloc,
+        slots.nodes.as_mut_slice(),
+        &slots.of,
+        &groups,
+        catalogue.instruments(),
+    )?;
     Ok(slots)
+}
+
+// Adds the name of each instrument to the box that it shares.
+fn add_names(
+    alloc: Global,
+    nodes: &mut [Node],
+    of: &[usize],
+    groups: &[Group],
+    instruments: &[Instrument],
+) -> Result<(), AllocError> {
+    for (instrument, place) in instruments.iter().zip(of) {
+        let is_shared = groups.get(*place).is_some_and(|group| group.count > 1);
+        if let (true, Some(node)) = (is_shared, nodes.get_mut(*place)) {
+            node.add_line(String::from_str(alloc, instrument.name.get().as_str()))?;
+        }
+    }
+    Ok(())
 }
 
 // The groups of instruments, of which so many streams come, and of each instrument the number of its group.

@@ -4,8 +4,11 @@ use crate::layout::{LINE, Layout, Place, WIDTH, layout_of};
 use crate::letters::push_fitting;
 use std::alloc::{AllocError, Global};
 
+// What it shows, for those who do not see it.
+const LABEL: &str = "Instruments, the views that select them, and the streams of each reader";
+
 const STYLE: &str = "<style>
-text { font: 12px sans-serif; fill: #222 }
+text { font: 12px sans-serif; fill: #222; unicode-bidi: isolate }
 .t { font-weight: bold }
 .d { fill: #666 }
 rect { fill: #fff; stroke: #777; rx: 4px }
@@ -41,7 +44,7 @@ fn push_head(out: &mut String, layout: &Layout) -> Result<(), AllocError> {
     let (width, height) = (layout.width, layout.height);
     write!(
         out,
-        "<svg xmlns=\"http://www.w3.org/2000/svg\" width=\"{width}\" height=\"{height}\">\n"
+        "<svg xmlns=\"http://www.w3.org/2000/svg\" role=\"img\" aria-label=\"{LABEL}\" width=\"{width}\" height=\"{height}\">\n"
     )?;
     out.push_str(STYLE)?;
     write!(

@@ -3,7 +3,7 @@ use Rattle.std.specs.Prelude.{◌≡◌, ℕ, true, List, [], ◌∷◌, ◌++�
 use Rattle.std.specs.String.{string_bytes}
 use Rattle.std.specs.declared.alloc.AllocError.{AllocError}
 use Rattle.metric_sheet.specs.declared.cell.Cell.{Cell}
-use Rattle.metric_sheet.specs.declared.cell.Cell.TheVariants.{Text, Number, Texts, Nothing}
+use Rattle.metric_sheet.specs.declared.cell.Cell.TheVariants.{Text, Number, Numbers, Flag, Texts, Nothing}
 use Rattle.metric_sheet.specs.declared.row.Row.{Row}
 
 pub record Gained (cell : Cell) (old new : Row) : Type 0 where
@@ -23,6 +23,8 @@ GainsOf (Err refused) old new = new.is_whole ≡ true → ⊥
 abbrev pub IsText : List ℕ → Cell → Type 0
 IsText bytes (Text text) = string_bytes text ≡ bytes
 IsText bytes (Number number) = ⊥
+IsText bytes (Numbers numbers) = ⊥
+IsText bytes (Flag flag) = ⊥
 IsText bytes (Texts texts) = ⊥
 IsText bytes Nothing = ⊥
 

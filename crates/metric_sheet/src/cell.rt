@@ -11,6 +11,10 @@ pub enum Cell {
     Text(String),
     /// A number.
     Number(u128),
+    /// A list of numbers.
+    Numbers(Vec<i64>),
+    /// Whether something is so.
+    Flag(bool),
     /// A list of texts.
     Texts(Vec<String>),
     /// Nothing.
@@ -35,6 +39,8 @@ impl Cell {
         match self {
             Cell::Text(text) => visible(alloc, text.as_str()),
             Cell::Number(number) => format!(in alloc; "{number}"),
+            Cell::Numbers(numbers) => numbered(alloc, numbers),
+            Cell::Flag(flag) => String::from_str(alloc, if *flag { "yes" } else { "no" }),
             Cell::Texts(texts) => listed(alloc, texts),
             Cell::Nothing => String::from_str(alloc, "-"),
         }
@@ -53,6 +59,16 @@ fn listed(alloc: Global, texts: &[String]) -> Result<String, AllocError> {
     }
     if all.is_empty() {
         all.push('-')?;
+    }
+    Ok(all)
+}
+
+// Numbers one after the other.
+fn numbered(alloc: Global, numbers: &[i64]) -> Result<String, AllocError> {
+    let mut all = String::new(alloc);
+    for number in numbers {
+        let before = if all.is_empty() { "" } else { ", " };
+        write!(all, "{before}{number}")?;
     }
     Ok(all)
 }

@@ -12,7 +12,7 @@ const MOST: usize = 1_000;
 const GAP: usize = 2;
 
 /// How wide each column is: as its widest cell, or less where all together would be wider than `most`. With 0 there is
-/// no such limit.
+/// no such limit. A column has room for each of its numbers.
 pub(crate) fn widths_of<S: Sheet>(
     alloc: Global,
     sheet: &S,
@@ -20,17 +20,36 @@ pub(crate) fn widths_of<S: Sheet>(
 ) -> Result<Vec<usize>, AllocError> {
     let mut widths = Vec::new(alloc);
     for title in sheet.titles() {
-        widths.push(letters(title))?;
+        widths.push(Width::of(letters(title)))?;
     }
     for number in 0..sheet.rows() {
         let row = sheet.row(alloc, number)?;
         widen(alloc, widths.as_mut_slice(), &row)?;
     }
-    if most > 0 {
-        let cap = cap_of(&widths, most);
-        cut_to(widths.as_mut_slice(), cap);
+    let cap = if most > 0 {
+        cap_of(&widths, most)
+    } else {
+        MOST
+    };
+    cut_to(alloc, &widths, cap)
+}
+
+// How wide a column is, and what its numbers need.
+#[derive(Clone, Copy, Drop)]
+struct Width {
+    wanted: usize,
+    numbers: usize,
+}
+
+impl Width {
+    fn of(wanted: usize) -> Width {
+        Width { wanted, numbers: 0 }
     }
-    Ok(widths)
+
+    // Its width where a text is no wider than a number.
+    fn cut(self, cap: usize) -> usize {
+        self.wanted.min(cap.max(self.numbers))
+    }
 }
 
 /// How many letters a text has.
@@ -39,12 +58,13 @@ pub(crate) fn letters(text: &str) -> usize {
 }
 
 // Makes columns as wide as the cells of a row.
-fn widen(alloc: Global, widths: &mut [usize], row: &[Cell]) -> Result<(), AllocError> {
+fn widen(alloc: Global, widths: &mut [Width], row: &[Cell]) -> Result<(), AllocError> {
     for (width, cell) in widths.iter_mut().zip(row) {
         let text = cell.shown(alloc)?;
         let wanted = letters(text.as_str()).min(MOST);
-        if *width < wanted {
-            *width = wanted;
+        width.wanted = width.wanted.max(wanted);
+        if cell.is_number() {
+            width.numbers = width.numbers.max(wanted);
         }
     }
     Ok(())
@@ -52,7 +72,7 @@ fn widen(alloc: Global, widths: &mut [usize], row: &[Cell]) -> Result<(), AllocE
 
 // The widest that a column may be, so that all columns are together not wider than `most`; the least width, where none
 // does.
-fn cap_of(widths: &[usize], most: usize) -> usize {
+fn cap_of(widths: &[Width], most: usize) -> usize {
     for less in 0..MOST - LEAST {
         let cap = MOST - less;
         if total_of(widths, cap) <= most {
@@ -63,16 +83,18 @@ fn cap_of(widths: &[usize], most: usize) -> usize {
 }
 
 // How wide columns are together, of which none is wider than a number.
-fn total_of(widths: &[usize], cap: usize) -> usize {
+fn total_of(widths: &[Width], cap: usize) -> usize {
     let mut total = 0usize;
     for width in widths {
-        total = total.saturating_add((*width).min(cap)).saturating_add(GAP);
+        total = total.saturating_add(width.cut(cap)).saturating_add(GAP);
     }
     total.saturating_sub(GAP)
 }
 
-fn cut_to(widths: &mut [usize], cap: usize) {
-    for width in widths.iter_mut() {
-        *width = (*width).min(cap);
+fn cut_to(alloc: Global, widths: &[Width], cap: usize) -> Result<Vec<usize>, AllocError> {
+    let mut cut = Vec::new(alloc);
+    for width in widths {
+        cut.push(width.cut(cap))?;
     }
+    Ok(cut)
 }

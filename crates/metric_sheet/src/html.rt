@@ -33,26 +33,32 @@ fn push_html_byte(page: &mut Vec<u8>, byte: u8) -> Result<(), AllocError>
     }
 }
 
-/// Puts a table last: a row of titles, and one for each row of the sheet. Where `shares` has a number for a row, a bar
-/// shows it behind the row as so many hundredths of what is allowed; without any there is no such column. Fails only
-/// when out of memory.
+/// Puts a table last: what it is of, a row of titles, and one for each row of the sheet. Where `shares` has a number for
+/// a row, a bar shows it behind the row as so many hundredths of what is allowed; without any there is no such column.
+/// Fails only when out of memory.
 pub fn push_html_table<S: Sheet>(
     alloc: Global,
     page: &mut Vec<u8>,
+    caption: &str,
     sheet: &S,
     shares: &[u32],
 ) -> Result<(), AllocError> {
-    push_text(page, "<div class=\"table\"><table>\n")?;
+    push_text(
+        page,
+        "<div class=\"table\" tabindex=\"0\"><table>\n<caption>",
+    )?;
+    push_html_text(page, caption)?;
+    push_text(page, "</caption>\n")?;
     push_titles(page, sheet.titles(), !shares.is_empty())?;
     for number in 0..sheet.rows() {
         let row = sheet.row(alloc, number)?;
         push_row(alloc, page, &row, shares.get(number).copied())?;
     }
-    push_text(page, "</table></div>\n")
+    push_text(page, "</tbody></table></div>\n")
 }
 
 fn push_titles(page: &mut Vec<u8>, titles: &[&str], has_shares: bool) -> Result<(), AllocError> {
-    push_text(page, "<tr>")?;
+    push_text(page, "<thead><tr>")?;
     for title in titles {
         push_text(page, "<th scope=\"col\">")?;
         push_html_text(page, title)?;
@@ -61,7 +67,7 @@ fn push_titles(page: &mut Vec<u8>, titles: &[&str], has_shares: bool) -> Result<
     if has_shares {
         push_text(page, "<th scope=\"col\">full</th>")?;
     }
-    push_text(page, "</tr>\n")
+    push_text(page, "</tr></thead>\n<tbody>\n")
 }
 
 fn push_row(
@@ -85,21 +91,26 @@ fn push_cell(alloc: Global, page: &mut Vec<u8>, cell: &Cell) -> Result<(), Alloc
     let begin = if cell.is_number() {
         "<td class=\"number\">"
     } else {
-        "<td>"
+        "<td dir=\"auto\">"
     };
     push_text(page, begin)?;
     push_html_text(page, shown.as_str())?;
     push_text(page, "</td>")
 }
 
-// A bar, and its number for those who do not see it.
+// A bar, and its number for those who do not see it: in hundredths, or how many times what is allowed.
 fn push_share(page: &mut Vec<u8>, share: u32) -> Result<(), AllocError> {
     push_text(
         page,
-        "<td class=\"number\"><meter max=\"100\" low=\"70\" high=\"100\" optimum=\"0\" value=\"",
+        "<td class=\"number\"><meter aria-label=\"full\" max=\"101\" low=\"70\" high=\"100\" optimum=\"0\" value=\"",
     )?;
-    push_number(page, u64::from(share.min(100)))?;
+    push_number(page, u64::from(share.min(101)))?;
     push_text(page, "\"></meter> ")?;
-    push_number(page, u64::from(share))?;
-    push_text(page, " %</td>")
+    if share < 200 {
+        push_number(page, u64::from(share))?;
+        push_text(page, " %</td>")
+    } else {
+        push_number(page, u64::from(share / 100))?;
+        push_text(page, " times</td>")
+    }
 }

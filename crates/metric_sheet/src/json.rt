@@ -8,8 +8,14 @@ use crate::sheet::Sheet;
 use metric_io::{Sink, write_all};
 use std::alloc::{AllocError, Global};
 
-/// Writes a line for each row: an object of JSON, whose fields have the names of the titles. A cell with nothing is
-/// `null`.
+// The format of the lines, which the first one names.
+const SCHEMA: &str = "{\"schema\":1}\n";
+
+// The greatest number up to which a double has each.
+const EXACT: u128 = 1 << 53;
+
+/// Writes a line that names the format, and a line for each row: an object of JSON, whose fields have the names of the
+/// titles. A cell with nothing is `null`, and a number that not every double tells apart from its neighbours is a text.
 ///
 /// # Errors
 ///
@@ -22,6 +28,7 @@ pub fn write_json<S: Sheet, W: Sink>(
     ensures broken { IfErr result (IsSheetFault (W.failures sink.old) (W.failures sink.new)) }
     ensures counted { OnOk result (W.failures sink.new ≡ W.failures sink.old) }
 {
+    write_all(sink, SCHEMA.as_bytes())?;
     for number in 0..sheet.rows() {
         let line = json_line(alloc, sheet, number)?;
         write_all(sink, line.as_bytes())?;
@@ -49,10 +56,32 @@ fn json_object(alloc: Global, titles: &[&str], row: &[Cell]) -> Result<String, A
 fn push_json_cell(line: &mut String, cell: &Cell) -> Result<(), AllocError> {
     match cell {
         Cell::Text(text) => push_json_text(line, text.as_str()),
-        Cell::Number(number) => write!(line, "{number}"),
+        Cell::Number(number) => push_json_number(line, "", *number),
+        Cell::Numbers(numbers) => push_json_numbers(line, numbers),
+        Cell::Flag(flag) => line.push_str(if *flag { "true" } else { "false" }),
         Cell::Texts(texts) => push_json_texts(line, texts),
         Cell::Nothing => line.push_str("null"),
     }
+}
+
+fn push_json_number(line: &mut String, sign: &str, number: u128) -> Result<(), AllocError> {
+    if number <= EXACT {
+        write!(line, "{sign}{number}")
+    } else {
+        write!(line, "\"{sign}{number}\"")
+    }
+}
+
+fn push_json_numbers(line: &mut String, numbers: &[i64]) -> Result<(), AllocError> {
+    line.push('[')?;
+    for (place, number) in numbers.iter().enumerate() {
+        if place > 0 {
+            line.push(',')?;
+        }
+        let sign = if *number < 0 { "-" } else { "" };
+        push_json_number(line, sign, u128::from(number.unsigned_abs()))?;
+    }
+    line.push(']')
 }
 
 fn push_json_texts(line: &mut String, texts: &[String]) -> Result<(), AllocError> {

@@ -1,6 +1,6 @@
 //! A row as it is made.
 ghost use Rattle.std.specs.Prelude.{◌≡◌, [], true, IfOk, OnOk};
-ghost use Rattle.metric_sheet.specs.declared.cell.Cell.TheVariants.{Nothing, Number};
+ghost use Rattle.metric_sheet.specs.declared.cell.Cell.TheVariants.{Flag, Nothing, Number};
 ghost use Rattle.metric_sheet.specs.Rows.{Gains, GainsOf, GainsText};
 
 use crate::cell::Cell;
@@ -57,6 +57,13 @@ impl Row {
         ensures { Gains (Number number) self.old self.new }
     {
         self.put(Ok(Cell::Number(number)));
+    }
+
+    /// Puts last whether something is so.
+    pub fn flag(&mut self, flag: bool)
+        ensures { Gains (Flag flag) self.old self.new }
+    {
+        self.put(Ok(Cell::Flag(flag)));
     }
 
     /// Puts last that there is nothing.

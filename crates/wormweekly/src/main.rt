@@ -101,6 +101,10 @@ fn run_watched<W: Write + Drop, E: Write + Drop>(
         writer: output,
         is_closed,
     });
+    let mut faults = StdSink::new(Watched {
+        writer: rt.stdout(),
+        is_closed,
+    });
     let mut errors = StdSink::new(Hushed {
         writer: told,
         is_closed,
@@ -112,6 +116,7 @@ fn run_watched<W: Write + Drop, E: Write + Drop>(
         columns,
         &mut folder,
         &mut sink,
+        &mut faults,
         &mut errors,
     )
 }

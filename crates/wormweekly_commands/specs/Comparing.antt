@@ -1,17 +1,18 @@
 -- What a comparison of an old catalogue and config with new ones answers.
-use Rattle.std.specs.Prelude.{◌≡◌, ◌⊎◌, ◌&&◌, ℕ, Bool, List, Option, None, Result, IfErr, IfOk, IsSomeAnd}
+use Rattle.std.specs.Prelude.{◌≡◌, ◌⊎◌, ℕ, Bool, List, [], Option, None, Result, IfErr, IfOk, IsSomeAnd}
 use Rattle.std.specs.Prelude.{if◌then◌else◌}
-use Rattle.std.specs.List.{list_any}
+use Rattle.std.specs.List.{flat_map, list_any}
 use Rattle.metric_parts.specs.declared.parts.Parts.{Parts}
 use Rattle.metric_resolve.specs.Resolved.{streams_of}
 use Rattle.metric_changes.specs.declared.change.Change.{Change}
-use Rattle.metric_changes.specs.Breaking.{is_breaking}
 use Rattle.metric_changes.specs.Changes.{Plan, changes_of, plan}
 use Rattle.metric_command_lines.specs.declared.wormweekly.request.Request.{Request}
 use Rattle.metric_kit_commands.specs.Claims.{IsClaimFault}
 use Rattle.metric_kit_commands.specs.Declarations.{IsDeclaredFault}
 use Rattle.wormweekly_commands.specs.Answers.{AreRooms, IsAccepted}
+use Rattle.wormweekly_commands.specs.Concerns.{denies_change, still_open, unless_left_out}
 use Rattle.wormweekly_commands.specs.Faults.{IsDeviceFault, IsRefusal}
+use Rattle.wormweekly_commands.specs.Series.{all_series}
 use Rattle.wormweekly_commands.specs.declared.comparing.Claim.{Claim}
 use Rattle.wormweekly_commands.specs.declared.comparing.Claim.TheVariants.{Absent, Holds, Fails}
 use Rattle.wormweekly_commands.specs.declared.comparing.Comparison.{Comparison}
@@ -30,7 +31,9 @@ IsClaim parts (Fails fault) = IsClaimFault fault parts
 abbrev pub plan_of : Rooms → Plan
 plan_of rooms =
     plan rooms.declared.catalogue rooms.declared.config
-    (streams_of rooms.declared.catalogue rooms.declared.config) rooms.rooms
+    (streams_of rooms.declared.catalogue rooms.declared.config)
+    (all_series rooms.declared.catalogue
+    (streams_of rooms.declared.catalogue rooms.declared.config)) rooms.rooms
 
 -- # what a comparison answers (profile) [IsComparison, diff_status]
 -- The changes from what the old files declare to what the new ones do, and whether the certificate
@@ -63,15 +66,24 @@ RefusesDiff texts (faults.Old fault) = IsSomeAnd texts.old (λ old. IsDeclaredFa
 RefusesDiff texts (faults.Kit fault) = IsDeviceFault fault ⊎ IsDeclaredFault fault texts.parts
 RefusesDiff texts fault = ⊥
 
--- 1 where a change that breaks something is denied and there is one, else 0
-abbrev pub diff_status : Bool → List Change → ℕ
-diff_status deny changes = if deny && list_any is_breaking changes then 1 else 0
+-- 1 where some change is denied, else 0
+abbrev pub diff_status : List (List ℕ) → List Change → ℕ
+diff_status denied changes = if list_any (denies_change denied) changes then 1 else 0
 
--- The answer's status, where it was written.
+-- the changes of a comparison that are told, which are not left out
+abbrev pub told_changes : Request → Comparison → List Change
+told_changes request comparison =
+    flat_map (unless_left_out request.concerns.allowed) comparison.changes
+
+-- The answer's status, where it was written. It is that of the changes that are told but for those
+-- that a file accepts; without a file there are none.
 pub record Compares (request : Request) (texts : Texts) (status : ℕ) : Type 0 where
   pub comparison : Comparison
   pub compared : IsCompared texts comparison
-  pub is_status : status ≡ diff_status request.options.deny_breaking comparison.changes
+  pub accepted : List Bool
+  pub are_accepted : texts.accepted ≡ None → accepted ≡ []
+  pub is_status : status
+      ≡ diff_status request.concerns.denied (still_open accepted (told_changes request comparison))
 
 -- A comparison is written, or refused; where it is refused nothing is written.
 pub record RunsDiff (request : Request) (texts : Texts) (contents contents_after : Option (List ℕ))

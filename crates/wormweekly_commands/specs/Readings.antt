@@ -37,4 +37,5 @@ pub record AreTexts (held : List ℕ → Option (List ℕ)) (files : Files) (tex
   pub catalogue : IsMeant held files.catalogue texts.parts.catalogue
   pub config : IsHeld held files.config texts.parts.config
   pub certificate : MayBeHeld held files.certificate texts.parts.certificate
+  pub accepted : MayBeHeld held files.accepted texts.accepted
   pub script : MayBeHeld held files.script texts.script

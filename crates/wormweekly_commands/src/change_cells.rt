@@ -1,36 +1,110 @@
 //! What stood before, and what stands now.
+use crate::change_sheet::reader_at;
 use crate::comparing::Comparison;
 use crate::rooms::Rooms;
 use crate::rows::{instrument_name, instrument_word, kind_word, temporality_word};
-use metric_advice::Headroom;
-use metric_base::Boundaries;
-use metric_changes::{InstrumentPart, StreamPart};
+use metric_base::Items;
+use metric_changes::{Change, InstrumentPart, StreamPart};
 use metric_contents::{Instrument, Key};
 use metric_kit_commands::Declared;
 use metric_lines::attribute_of;
 use metric_names::AttrValue;
-use metric_sheet::{Cell, Row};
+use metric_sheet::Cell;
 use metric_views::{Stream, StreamAggregation};
 use std::alloc::{AllocError, Global};
 
-/// Puts a part of an old stream last, and of a new one.
-pub(crate) fn put_parts(
-    row: &mut Row,
+/// What stood before a change.
+pub(crate) fn before_cell(
+    alloc: Global,
     comparison: &Comparison,
-    old: &Stream,
-    new: &Stream,
-    part: StreamPart,
-) {
-    row.put(part_cell(row.alloc(), &comparison.old, old, part));
-    row.put(part_cell(row.alloc(), &comparison.new, new, part));
+    change: &Change,
+) -> Result<Cell, AllocError> {
+    let side = &comparison.old;
+    let streams = comparison.old_streams.as_slice();
+    match *change {
+        Change::ReaderRenamed { old, .. } => Cell::text(alloc, reader_at(side, old)),
+        Change::CollisionGone { old } => part_cell(
+            alloc,
+            side,
+            streams.get(old),
+            StreamPart::Instrument,
+        ),
+        Change::SeriesChanged { old, .. } => Ok(series_cell(&comparison.old_series, old)),
+        Change::StreamChanged { old, part, .. } => part_cell(alloc, side, streams.get(old), part),
+        Change::KeyGone { old, key, .. } => key_cell(alloc, &side.declared, streams.get(old), key),
+        Change::InstrumentChanged { old, part, .. } => declared_cell(alloc, side, old, part),
+        Change::DeclaredKeyGone { old, key, .. } | Change::KeyTurned { old, key, .. } => {
+            declared_key_cell(alloc, side, old, key)
+        }
+        Change::ValueGone {
+            old,
+            key,
+            value,
+            ..
+        } => value_cell(alloc, side, old, key, value),
+        Change::CombinationGone { old, row, .. } => combination_cell(alloc, side, old, row),
+        Change::BudgetChanged { old, recorder, .. } => Ok(budget_cell(side, recorder, old)),
+        Change::HeadroomChanged { old, .. } => Ok(room_cell(side, old)),
+        _ => Ok(Cell::Nothing),
+    }
+}
+
+/// What stands now.
+pub(crate) fn after_cell(
+    alloc: Global,
+    comparison: &Comparison,
+    change: &Change,
+) -> Result<Cell, AllocError> {
+    let side = &comparison.new;
+    let streams = comparison.new_streams.as_slice();
+    match *change {
+        Change::ReaderRenamed { new, .. } => Cell::text(alloc, reader_at(side, new)),
+        Change::CollisionNew { new } => part_cell(
+            alloc,
+            side,
+            streams.get(new),
+            StreamPart::Instrument,
+        ),
+        Change::SeriesChanged { new, .. } => Ok(series_cell(&comparison.new_series, new)),
+        Change::StreamChanged { new, part, .. } => part_cell(alloc, side, streams.get(new), part),
+        Change::KeyNew { new, key, .. } => key_cell(alloc, &side.declared, streams.get(new), key),
+        Change::InstrumentChanged { new, part, .. } => declared_cell(alloc, side, new, part),
+        Change::DeclaredKeyNew { new, key, .. }
+        | Change::KeyTurned {
+            new,
+            other: key,
+            ..
+        } => { declared_key_cell(alloc, side, new, key) }
+        Change::ValueNew {
+            new,
+            key,
+            value,
+            ..
+        } => value_cell(alloc, side, new, key, value),
+        Change::CombinationNew { new, row, .. } => combination_cell(alloc, side, new, row),
+        Change::BudgetChanged { new, other, .. } => Ok(budget_cell(side, other, new)),
+        Change::HeadroomChanged { new, .. } => Ok(room_cell(side, new)),
+        _ => Ok(Cell::Nothing),
+    }
+}
+
+// How many series a stream may have.
+fn series_cell(series: &Items<u128>, stream: usize) -> Cell {
+    match series.as_slice().get(stream) {
+        Some(count) => Cell::Number(*count),
+        None => Cell::Nothing,
+    }
 }
 
 fn part_cell(
     alloc: Global,
     side: &Rooms,
-    stream: &Stream,
+    stream: Option<&Stream>,
     part: StreamPart,
 ) -> Result<Cell, AllocError> {
+    let Some(stream) = stream else {
+        return Ok(Cell::Nothing);
+    };
     match part {
         StreamPart::Name => Cell::text(alloc, stream.name.get().as_str()),
         StreamPart::Description => Cell::text(alloc, stream.description.get().as_str()),
@@ -51,30 +125,20 @@ fn part_cell(
 
 fn aggregation_cell(alloc: Global, aggregation: &StreamAggregation) -> Result<Cell, AllocError> {
     match aggregation {
-        StreamAggregation::Histogram(boundaries) => boundaries_cell(alloc, boundaries.get()),
+        StreamAggregation::Histogram(boundaries) => numbers_cell(
+            alloc,
+            boundaries.get().as_slice(),
+        ),
         _ => Ok(Cell::Nothing),
     }
 }
 
-fn boundaries_cell(alloc: Global, boundaries: &Boundaries) -> Result<Cell, AllocError> {
-    let mut texts = Vec::new(alloc);
-    for boundary in boundaries.as_slice() {
-        texts.push(format!(in alloc; "{boundary}")?)?;
+fn numbers_cell(alloc: Global, numbers: &[i64]) -> Result<Cell, AllocError> {
+    let mut all = Vec::new(alloc);
+    for number in numbers {
+        all.push(*number)?;
     }
-    Ok(Cell::Texts(texts))
-}
-
-/// Puts a part of what is declared of an old instrument last, and of a new one.
-pub(crate) fn put_declared_parts(
-    row: &mut Row,
-    comparison: &Comparison,
-    numbers: (usize, usize),
-    part: InstrumentPart,
-) {
-    let old = instrument_at(&comparison.old, numbers.0);
-    let new = instrument_at(&comparison.new, numbers.1);
-    row.put(declared_cell(row.alloc(), old, part));
-    row.put(declared_cell(row.alloc(), new, part));
+    Ok(Cell::Numbers(all))
 }
 
 fn instrument_at(side: &Rooms, number: usize) -> Option<&Instrument> {
@@ -83,10 +147,11 @@ fn instrument_at(side: &Rooms, number: usize) -> Option<&Instrument> {
 
 fn declared_cell(
     alloc: Global,
-    instrument: Option<&Instrument>,
+    side: &Rooms,
+    instrument: usize,
     part: InstrumentPart,
 ) -> Result<Cell, AllocError> {
-    let Some(instrument) = instrument else {
+    let Some(instrument) = instrument_at(side, instrument) else {
         return Ok(Cell::Nothing);
     };
     match part {
@@ -95,11 +160,11 @@ fn declared_cell(
         InstrumentPart::Unit => Cell::text(alloc, instrument.unit.get().as_str()),
         InstrumentPart::Kind => Cell::text(alloc, instrument_word(instrument.kind)),
         InstrumentPart::Advice => match &instrument.advice {
-            Some(boundaries) => boundaries_cell(alloc, boundaries.get()),
+            Some(boundaries) => numbers_cell(alloc, boundaries.get().as_slice()),
             None => Ok(Cell::Nothing),
         },
         InstrumentPart::Range | InstrumentPart::WiderRange => {
-            range_cell(alloc, instrument.lo, instrument.hi)
+            numbers_cell(alloc, &[instrument.lo, instrument.hi])
         }
         InstrumentPart::Spare | InstrumentPart::MoreSpare => {
             Ok(Cell::Number(u128::from(instrument.spare)))
@@ -116,15 +181,8 @@ fn rows_cell(instrument: &Instrument) -> Cell {
     }
 }
 
-fn range_cell(alloc: Global, lo: i64, hi: i64) -> Result<Cell, AllocError> {
-    let mut ends = Vec::new(alloc);
-    ends.push(format!(in alloc; "{lo}")?)?;
-    ends.push(format!(in alloc; "{hi}")?)?;
-    Ok(Cell::Texts(ends))
-}
-
-/// A key that an instrument declares, and whether it is required.
-pub(crate) fn declared_key_cell(
+// A key that an instrument declares, and whether it is required.
+fn declared_key_cell(
     alloc: Global,
     side: &Rooms,
     instrument: usize,
@@ -143,8 +201,8 @@ fn key_at(side: &Rooms, instrument: usize, key: usize) -> Option<&Key> {
     instrument.keys.as_slice().get(key)
 }
 
-/// A key with a value, of which a text stands in quotes.
-pub(crate) fn value_cell(
+// A key with a value, of which a text stands in quotes.
+fn value_cell(
     alloc: Global,
     side: &Rooms,
     instrument: usize,
@@ -170,8 +228,8 @@ fn attribute_text(alloc: Global, name: &str, value: &AttrValue) -> Result<String
     }
 }
 
-/// The attributes that a combination of an instrument stands for.
-pub(crate) fn combination_cell(
+// The attributes that a combination of an instrument stands for.
+fn combination_cell(
     alloc: Global,
     side: &Rooms,
     instrument: usize,
@@ -204,16 +262,16 @@ fn combination_text(alloc: Global, keys: &[Key], row: &[u16]) -> Result<String, 
     Ok(text)
 }
 
-/// How many recordings a recorder may make on an instrument.
-pub(crate) fn budget_cell(side: &Rooms, recorder: usize, instrument: usize) -> Cell {
+// How many recordings a recorder may make on an instrument.
+fn budget_cell(side: &Rooms, recorder: usize, instrument: usize) -> Cell {
     let recorder = u32::try_from(recorder).unwrap_or(u32::MAX);
     let instrument = u32::try_from(instrument).unwrap_or(u32::MAX);
     let amount = side.declared.catalogue.budget(recorder, instrument);
     Cell::Number(u128::from(amount))
 }
 
-/// The name of a key of a stream's instrument, where there is one.
-pub(crate) fn key_cell(
+// The name of a key of a stream's instrument, where there is one.
+fn key_cell(
     alloc: Global,
     declared: &Declared,
     stream: Option<&Stream>,
@@ -232,16 +290,9 @@ fn key_name<'d>(declared: &'d Declared, stream: Option<&Stream>, key: usize) -> 
     Some(key.name.as_str())
 }
 
-/// Puts the greatest sum of budgets and spare last that is safe for an old instrument and for a new one.
-pub(crate) fn put_rooms(row: &mut Row, comparison: &Comparison, numbers: (usize, usize)) {
-    let old = comparison.old.rooms.as_slice().get(numbers.0);
-    let new = comparison.new.rooms.as_slice().get(numbers.1);
-    row.put(Ok(room_cell(old)));
-    row.put(Ok(room_cell(new)));
-}
-
-fn room_cell(room: Option<&Headroom>) -> Cell {
-    match room {
+// The greatest sum of budgets and spare that is safe for an instrument.
+fn room_cell(side: &Rooms, instrument: usize) -> Cell {
+    match side.rooms.as_slice().get(instrument) {
         Some(room) => Cell::Number(u128::from(room.most)),
         None => Cell::Nothing,
     }

@@ -2,18 +2,20 @@
 ghost use Rattle.std.specs.Prelude.{◌≡◌, IfErr, IfOk};
 ghost use Rattle.metric_kit_commands.specs.Claims.{IsClaimFault};
 ghost use Rattle.metric_kit_commands.specs.Declarations.{IsDeclaredFault};
-ghost use Rattle.metric_changes.specs.Breaking.{is_breaking};
 ghost use Rattle.metric_changes.specs.Changes.{plan, plan_of};
 ghost use Rattle.wormweekly_commands.specs.Answers.{AreRooms};
 ghost use Rattle.wormweekly_commands.specs.Comparing.{IsClaim, IsCompared, IsComparison, IsOldFault, RefusesDiff, RefusesPair, diff_status};
+ghost use Rattle.wormweekly_commands.specs.Concerns.{denies_change};
 ghost use Rattle.wormweekly_commands.specs.Faults.{IsDeviceFault};
 ghost use Rattle.std.specs.List.{list_any};
 
+use crate::concerns::denies_change;
 use crate::fault::{ConsoleFault, Role};
 use crate::folder::Unread;
 use crate::parts::Texts;
 use crate::rooms::{Rooms, rooms_of};
-use metric_base::Items;
+use crate::series::all_series;
+use metric_base::{Items, Text};
 use metric_changes::{Change, Side, changes};
 use metric_kit_commands::{KitFault, certified_plan};
 use metric_parts::Parts;
@@ -35,8 +37,10 @@ pub(crate) enum Claim {
 pub(crate) struct Comparison {
     pub old: Rooms,
     pub old_streams: StreamList,
+    pub old_series: Items<u128>,
     pub new: Rooms,
     pub new_streams: StreamList,
+    pub new_series: Items<u128>,
     pub claim: Claim,
     pub changes: Items<Change>,
 }
@@ -46,8 +50,10 @@ impl Drop for Comparison {
         let Comparison {
             old: _old,
             old_streams: _old_streams,
+            old_series: _old_series,
             new: _new,
             new_streams: _new_streams,
+            new_series: _new_series,
             claim: _claim,
             changes: _changes,
         } = self;
@@ -92,14 +98,18 @@ pub(crate) fn compared(
     let claim = claim_of(alloc, parts)?;
     let old_streams = resolve_streams(alloc, &old.declared.catalogue, &old.declared.config)?;
     let new_streams = resolve_streams(alloc, &new.declared.catalogue, &new.declared.config)?;
-    let old_side = side_of(&old, &old_streams);
-    let new_side = side_of(&new, &new_streams);
+    let old_series = all_series(alloc, &old.declared.catalogue, old_streams.as_slice())?;
+    let new_series = all_series(alloc, &new.declared.catalogue, new_streams.as_slice())?;
+    let old_side = side_of(&old, &old_streams, &old_series);
+    let new_side = side_of(&new, &new_streams, &new_series);
     let changes = changes(alloc, old_side, new_side)?;
     Ok(Comparison {
         old,
         old_streams,
+        old_series,
         new,
         new_streams,
+        new_series,
         claim,
         changes,
     })
@@ -132,31 +142,28 @@ fn claim_of(alloc: Global, parts: &Parts<'_>) -> Result<Claim, KitFault>
 }
 
 /// What is compared, with its streams.
-fn side_of<'s>(rooms: &'s Rooms, streams: &'s StreamList) -> Side<'s>
-    ensures { plan_of result
-        ≡ plan rooms.now.declared.catalogue rooms.now.declared.config streams.now rooms.now.rooms }
+fn side_of<'s>(rooms: &'s Rooms, streams: &'s StreamList, series: &'s Items<u128>) -> Side<'s>
+    ensures { plan_of result ≡ plan rooms.now.declared.catalogue rooms.now.declared.config
+        streams.now series.now rooms.now.rooms }
 {
     Side {
         catalogue: &rooms.declared.catalogue,
         config: &rooms.declared.config,
         streams: streams.as_slice(),
+        series: series.as_slice(),
         rooms: rooms.rooms.as_slice(),
     }
 }
 
-/// The exit status: 1 where a change that breaks something is denied and there is one, else 0.
-pub(crate) fn diff_status(deny_breaking: bool, changes: &[Change]) -> u8
-    ensures { result ≡ diff_status deny_breaking changes.now }
+/// The exit status: 1 where some change is denied, else 0.
+pub(crate) fn diff_status(denied: &[Text], changes: &[Change]) -> u8
+    ensures { result ≡ diff_status denied.now changes.now }
 {
-    if deny_breaking && has_breaking(changes) {
-        1
-    } else {
-        0
-    }
+    if has_denied(denied, changes) { 1 } else { 0 }
 }
 
-fn has_breaking(changes: &[Change]) -> bool
-    ensures { result ≡ list_any is_breaking changes.now }
+fn has_denied(denied: &[Text], changes: &[Change]) -> bool
+    ensures { result ≡ list_any (denies_change denied.now) changes.now }
 {
-    changes.iter().any(|change| change.is_breaking())
+    changes.iter().any(|change| denies_change(denied, change))
 }

@@ -1,12 +1,13 @@
 //! Which remarks count.
-ghost use Rattle.std.specs.Prelude.{◌≡◌, ◌++◌, IfOk, OnOk};
+ghost use Rattle.std.specs.Prelude.{◌≡◌, ◌++◌, false, IfOk, OnOk, slice_index_or};
 ghost use Rattle.std.specs.List.{flat_map, list_any};
 ghost use Rattle.metric_advice.specs.Kinds.{kind_of};
-ghost use Rattle.wormweekly_commands.specs.Concerns.{denies, denies_some, names, unless_allowed};
+ghost use Rattle.wormweekly_commands.specs.Concerns.{denies, denies_change, denies_some, names, still_open, unless_accepted, unless_allowed, unless_left_out};
 
 use crate::notes::Notes;
 use metric_advice::Remark;
 use metric_base::{Items, Text};
+use metric_changes::Change;
 use std::alloc::{AllocError, Global};
 
 /// The remarks whose kinds are not among these words.
@@ -59,8 +60,8 @@ pub(crate) fn names(words: &[Text], kind: &str) -> bool
     words.iter().any(|word| word.as_str() == kind)
 }
 
-// Whether a kind is denied by words, by its own name or with all.
-fn denies(words: &[Text], kind: &str) -> bool
+/// Whether a kind is denied by words, by its own name or with all.
+pub(crate) fn denies(words: &[Text], kind: &str) -> bool
     ensures { result ≡ denies words.now kind.now }
 {
     names(words, "remarks") || names(words, kind)
@@ -78,4 +79,103 @@ fn denies_remark(words: &[Text], remarks: &[Remark]) -> bool
     ensures { result ≡ list_any (λ remark. denies words.now (kind_of remark)) remarks.now }
 {
     remarks.iter().any(|remark| denies(words, remark.kind()))
+}
+
+/// The changes whose kinds are not among these words.
+pub(crate) fn told_changes(
+    alloc: Global,
+    changes: &[Change],
+    allowed: &[Text],
+) -> Result<Items<Change>, AllocError>
+    ensures { IfOk result (λ told. told ≡ flat_map (unless_left_out allowed.now) changes.now) }
+{
+    let mut told = Items::new(alloc);
+    add_told(&mut told, changes, allowed)?;
+    Ok(told)
+}
+
+#[tactic(auto, using(metric_text::specs::ListLaws::steps))]
+fn add_told(
+    told: &mut Items<Change>,
+    changes: &[Change],
+    allowed: &[Text],
+) -> Result<(), AllocError>
+    ensures { OnOk result (told.new ≡ told.old
+        ++ flat_map (unless_left_out allowed.now) changes.now) }
+{
+    for change in changes {
+        add_unless_left_out(told, *change, allowed)?;
+    }
+    Ok(())
+}
+
+fn add_unless_left_out(
+    told: &mut Items<Change>,
+    change: Change,
+    allowed: &[Text],
+) -> Result<(), AllocError>
+    ensures { OnOk result (told.new ≡ told.old ++ unless_left_out allowed.now change) }
+{
+    if !names(allowed, change.kind()) {
+        told.push(change)?;
+    }
+    Ok(())
+}
+
+/// The changes that a file does not accept, which is said of each by its place.
+pub(crate) fn still_open(
+    alloc: Global,
+    changes: &[Change],
+    accepted: &[bool],
+) -> Result<Items<Change>, AllocError>
+    ensures { IfOk result (λ left. left ≡ still_open accepted.now changes.now) }
+{
+    let mut left = Items::new(alloc);
+    add_open(&mut left, changes, accepted)?;
+    Ok(left)
+}
+
+fn add_open(
+    left: &mut Items<Change>,
+    changes: &[Change],
+    accepted: &[bool],
+) -> Result<(), AllocError>
+    ensures { OnOk result (left.new ≡ left.old ++ still_open accepted.now changes.now) }
+{
+    for place in 0..changes.len() {
+        let change = &changes[place];
+        add_unless_accepted(left, place, change, accepted)?;
+    }
+    Ok(())
+}
+
+fn add_unless_accepted(
+    left: &mut Items<Change>,
+    place: usize,
+    change: &Change,
+    accepted: &[bool],
+) -> Result<(), AllocError>
+    ensures { OnOk result (
+        left.new ≡ left.old ++ unless_accepted accepted.now (place, change.now)) }
+{
+    if !is_accepted(accepted, place) {
+        left.push(*change)?;
+    }
+    Ok(())
+}
+
+fn is_accepted(accepted: &[bool], place: usize) -> bool
+    ensures { result ≡ slice_index_or accepted.now place false }
+{
+    match accepted.get(place) {
+        Some(is_accepted) => *is_accepted,
+        None => false,
+    }
+}
+
+/// Whether words deny a change, by the name of its kind or as one that breaks.
+pub(crate) fn denies_change(words: &[Text], change: &Change) -> bool
+    ensures { result ≡ denies_change words.now change.now }
+{
+    (names(words, "breaking") && change.is_breaking()) || names(words, change.kind())
 }

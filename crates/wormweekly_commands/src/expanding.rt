@@ -9,7 +9,8 @@ use crate::fault::{ConsoleFault, Role};
 use crate::folder::Folder;
 use crate::parts::text_at;
 use crate::shown_path::shown;
-use crate::telling::{source_of, spelled, stop};
+use crate::telling::{source_of, stop};
+use crate::told_fault::Told;
 use metric_base::Text;
 use metric_catalogue::CatalogueFault;
 use metric_command_lines::{Files, Request};
@@ -97,7 +98,7 @@ fn stop_short<E: Sink>(
     ensures { result ≡ short_status fault }
 {
     let _told = match told_short(alloc, files, source, fault) {
-        Ok(text) => print(errors, text.as_str()),
+        Ok(told) => print(errors, told.text.as_str()),
         Err(_) => print(errors, "out of memory\n"),
     };
     match fault {
@@ -111,15 +112,12 @@ fn told_short(
     files: &Files,
     source: &Text,
     fault: ShortFault,
-) -> Result<String, AllocError> {
+) -> Result<Told, AllocError> {
     if fault == ShortFault::NotToml {
         let source = source_of(&files.catalogue, source);
-        return spelled(
-            alloc,
-            diagnose_catalogue(alloc, source, CatalogueFault::NotToml),
-        );
+        let told = diagnose_catalogue(alloc, source, CatalogueFault::NotToml);
+        return Told::diagnosed(alloc, told);
     }
-    let path = shown(files.catalogue.as_str());
     let words = told(alloc, source.as_str(), fault)?;
-    format!(in alloc; "{path}: {words}\n")
+    Told::of_file(alloc, shown(files.catalogue.as_str()), words.as_str())
 }

@@ -22,6 +22,8 @@ pub enum Role {
     Config,
     /// The certificate.
     Certificate,
+    /// The changes that are accepted.
+    Accepted,
     /// The script.
     Script,
 }

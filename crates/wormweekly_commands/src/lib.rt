@@ -6,6 +6,7 @@
 //! the contracts cite the definitions of these.
 #![tactic(auto)]
 
+mod accepting;
 mod answer;
 mod change_cells;
 mod change_sheet;
@@ -35,11 +36,13 @@ mod report;
 mod report_page;
 mod rooms;
 mod rows;
+mod series;
 mod shares;
 mod shown_path;
 mod telling;
 mod telling_old;
 mod time;
+mod told_fault;
 
 pub use fault::{ConsoleFault, PageFault};
 pub use folder::{Folder, Unread, Unwritten};

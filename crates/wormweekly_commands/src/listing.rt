@@ -13,9 +13,10 @@ use metric_resolve::{Streams, resolve};
 use metric_sheet::{Cell, Row, Sheet};
 use std::alloc::{AllocError, Global};
 
-static TITLES: [&str; 15] = [
+static TITLES: [&str; 16] = [
     "number",
     "reader",
+    "meter",
     "instrument",
     "stream",
     "unit",

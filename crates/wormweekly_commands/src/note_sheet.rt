@@ -1,21 +1,22 @@
 //! Remarks as rows, for machines.
 use crate::notes::Notes;
+use crate::noting::MOST_NOTES;
 use crate::parts::Texts;
 use crate::telling::pair_of;
+use crate::told_fault::{TITLES, put_position};
+use metric_advice::Remark;
 use metric_command_lines::Request;
 use metric_diagnosis::{Diagnosis, Pair, diagnose_exposure, diagnose_remark};
+use metric_exposure::ExposureFault;
 use metric_sheet::{Cell, Row, Sheet};
 use std::alloc::{AllocError, Global};
 
-static TITLES: [&str; 5] = ["kind", "file", "line", "column", "text"];
-
-/// The first remarks, so many of them, and last how many more there are.
+/// The remarks: the first with their places, and the others in words alone.
 #[derive(Clone, Copy)]
 pub(crate) struct NoteSheet<'a> {
     pub request: &'a Request,
     pub texts: &'a Texts,
     pub notes: &'a Notes,
-    pub most: usize,
 }
 
 impl Sheet for NoteSheet<'_> {
@@ -24,15 +25,16 @@ impl Sheet for NoteSheet<'_> {
     }
 
     fn rows(&self) -> usize {
-        self.notes.count().min(self.most.saturating_add(1))
+        self.notes.count()
     }
 
     fn row(&self, alloc: Global, number: usize) -> Result<Vec<Cell>, AllocError> {
         let mut row = Row::new(alloc);
-        if number < self.most {
-            self.put_note(&mut row, number)?;
+        let told = self.notes.told_at(number);
+        if number < MOST_NOTES {
+            self.put_note(&mut row, told)?;
         } else {
-            put_more(&mut row, self.notes.count().saturating_sub(self.most));
+            self.put_words(&mut row, told);
         }
         row.cells()
     }
@@ -53,6 +55,24 @@ impl NoteSheet<'_> {
         }
     }
 
+    // The kind and the words of the remark of a number, where there is one.
+    fn put_words(&self, row: &mut Row, number: usize) {
+        let remarks = self.notes.remarks.as_slice();
+        if let Some(remark) = remarks.get(number) {
+            row.text(remark.kind());
+            put_nowhere(row);
+            row.put(remark_cell(row.alloc(), *remark));
+        } else if let Some(exposure) = self
+            .notes
+            .exposures
+            .get(number.saturating_sub(remarks.len()))
+        {
+            row.text("exposure");
+            put_nowhere(row);
+            row.put(exposure_cell(row.alloc(), exposure.fault));
+        }
+    }
+
     fn put_exposure(&self, row: &mut Row, pair: Pair<'_>, number: usize) -> Result<(), AllocError> {
         let streams = self.notes.streams.as_slice();
         if let Some(exposure) = self.notes.exposures.get(number) {
@@ -67,28 +87,21 @@ impl NoteSheet<'_> {
 fn put_told<F>(row: &mut Row, kind: &str, told: &Diagnosis<'_, F>) {
     row.text(kind);
     row.text(told.file);
-    match told.position {
-        Some(position) => {
-            row.number(position.line as u128);
-            row.number(position.column as u128);
-        }
-        None => {
-            row.nothing();
-            row.nothing();
-        }
-    }
+    put_position(row, told.position);
     row.text(told.words.as_str());
 }
 
-// What is told of so many remarks more.
-fn put_more(row: &mut Row, more: usize) {
-    row.text("more");
+// What has no place.
+fn put_nowhere(row: &mut Row) {
     row.nothing();
     row.nothing();
     row.nothing();
-    row.put(more_cell(row.alloc(), more));
 }
 
-fn more_cell(alloc: Global, more: usize) -> Result<Cell, AllocError> {
-    Ok(Cell::Text(format!(in alloc; "and {more} more remarks")?))
+fn remark_cell(alloc: Global, remark: Remark) -> Result<Cell, AllocError> {
+    Ok(Cell::Text(format!(in alloc; "{remark}")?))
+}
+
+fn exposure_cell(alloc: Global, fault: ExposureFault) -> Result<Cell, AllocError> {
+    Ok(Cell::Text(format!(in alloc; "{fault}")?))
 }

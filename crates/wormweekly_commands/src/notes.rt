@@ -3,7 +3,7 @@ ghost use Rattle.std.specs.Prelude.{◌≡◌, IfErr, IfOk};
 ghost use Rattle.metric_kit_commands.specs.Declarations.{IsDeclaredFault};
 ghost use Rattle.wormweekly_commands.specs.Answers.{AreNotes, told_outlets};
 
-use crate::concerns::{kept, names};
+use crate::concerns::{denies, kept, names};
 use crate::exposures::{Exposure, exposures_of};
 use metric_advice::{Remark, lint};
 use metric_base::{Items, Text};
@@ -11,7 +11,7 @@ use metric_command_lines::{Outlets, Request};
 use metric_kit_commands::{Declared, KitFault, declared_of};
 use metric_parts::Parts;
 use metric_resolve::{StreamList, resolve_streams};
-use std::alloc::Global;
+use std::alloc::{AllocError, Global};
 
 /// The remarks on a catalogue and a config, with what ways out would lose of the streams.
 pub(crate) struct Notes {
@@ -19,6 +19,8 @@ pub(crate) struct Notes {
     pub remarks: Items<Remark>,
     pub streams: StreamList,
     pub exposures: Vec<Exposure>,
+    // In which order they are told: those that are denied, and then the others.
+    order: Vec<usize>,
 }
 
 impl Drop for Notes {
@@ -28,6 +30,7 @@ impl Drop for Notes {
             remarks: _remarks,
             streams: _streams,
             exposures: _exposures,
+            order: _order,
         } = self;
     }
 }
@@ -37,6 +40,43 @@ impl Notes {
     pub(crate) fn count(&self) -> usize {
         self.remarks.len().saturating_add(self.exposures.len())
     }
+
+    /// The number of the one that is told at a place; the exposures have the numbers after those of the remarks.
+    pub(crate) fn told_at(&self, place: usize) -> usize {
+        self.order.get(place).copied().unwrap_or(place)
+    }
+}
+
+fn order_of(
+    alloc: Global,
+    denied: &[Text],
+    remarks: &[Remark],
+    exposures: usize,
+) -> Result<Vec<usize>, AllocError> {
+    let mut order = Vec::new(alloc);
+    let count = remarks.len().saturating_add(exposures);
+    add_those(&mut order, denied, remarks, count, true)?;
+    add_those(&mut order, denied, remarks, count, false)?;
+    Ok(order)
+}
+
+// Puts the numbers of those last that are denied, or of the others.
+fn add_those(
+    order: &mut Vec<usize>,
+    denied: &[Text],
+    remarks: &[Remark],
+    count: usize,
+    are_denied: bool,
+) -> Result<(), AllocError> {
+    for number in 0..count {
+        let kind = remarks
+            .get(number)
+            .map_or("exposure", |remark| remark.kind());
+        if denies(denied, kind) == are_denied {
+            order.push(number)?;
+        }
+    }
+    Ok(())
 }
 
 /// The remarks on what the parts declare that are not allowed, also what the ways out would lose that are asked for.
@@ -60,11 +100,14 @@ pub(crate) fn notes_of(
         streams.as_slice(),
         told_outlets(request.options.outlets, allowed),
     )?;
+    let denied = request.concerns.denied.as_slice();
+    let order = order_of(alloc, denied, remarks.as_slice(), exposures.len())?;
     Ok(Notes {
         declared,
         remarks,
         streams,
         exposures,
+        order,
     })
 }
 

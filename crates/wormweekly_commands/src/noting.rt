@@ -17,8 +17,8 @@ use std::alloc::{AllocError, Global};
 /// So many remarks are told, since the place of each is looked for in the texts.
 pub(crate) const MOST_NOTES: usize = 100;
 
-/// Writes the first remarks, as text or as lines of JSON: those on the two files, then what ways out would lose, and
-/// last how many more there are.
+/// Writes the remarks: those on the two files, then what ways out would lose. As lines of JSON all, the first with their
+/// places; as text the first, and last how many more there are.
 pub(crate) fn print_notes<W: Sink>(
     alloc: Global,
     sink: &mut W,
@@ -28,13 +28,11 @@ pub(crate) fn print_notes<W: Sink>(
 ) -> Result<(), KitFault>
     ensures { IfErr result IsDeviceFault }
 {
-    let most = MOST_NOTES;
     if request.options.json {
         let sheet = NoteSheet {
             request,
             texts,
             notes,
-            most,
         };
         print_json(alloc, sink, &sheet)
     } else {
@@ -80,6 +78,7 @@ fn note_at(
 ) -> Result<String, AllocError> {
     let mut note = String::new(alloc);
     let files = &request.files;
+    let number = notes.told_at(number);
     let remarks = notes.remarks.as_slice();
     if let Some(remark) = remarks.get(number) {
         push_note(alloc, &mut note, files, texts, &notes.declared, *remark)?;

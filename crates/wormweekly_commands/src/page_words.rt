@@ -2,7 +2,8 @@
 use crate::fault::PageFault;
 use crate::parts::Texts;
 use crate::shown_path::shown;
-use crate::telling::{pair_of, spelled, told_plain};
+use crate::telling::pair_of;
+use crate::told_fault::Told;
 use metric_base::Text;
 use metric_command_lines::{Files, Request};
 use metric_diagnosis::diagnose_exposure;
@@ -18,7 +19,7 @@ pub(crate) fn told_page(
     request: &Request,
     texts: Option<&Texts>,
     fault: PageFault,
-) -> Result<String, AllocError> {
+) -> Result<Told, AllocError> {
     let resource = &request.resource;
     let config = shown(request.files.config.as_str());
     match fault {
@@ -27,23 +28,26 @@ pub(crate) fn told_page(
             told_labels(alloc, resource, attribute, other)
         }
         PageFault::NoReader => told_reader(alloc, config, &request.reader),
-        PageFault::NoneServed => {
-            format!(in alloc; "{config}: no reader has a cumulative stream, which a page needs\n")
-        }
-        PageFault::SeveralReaders => {
-            format!(in alloc;
-                "{config}: several readers have cumulative streams; name one by '--reader'\n"
-            )
-        }
+        PageFault::NoneServed => Told::of_file(
+            alloc,
+            config,
+            "no reader has a cumulative stream, which a page needs",
+        ),
+        PageFault::SeveralReaders => Told::of_file(
+            alloc,
+            config,
+            "several readers have cumulative streams; name one by '--reader'",
+        ),
         PageFault::Exposure(fault) => told_exposure(alloc, &request.files, texts, fault),
     }
 }
 
-fn told_label(alloc: Global, resource: &Resource, attribute: usize) -> Result<String, AllocError> {
+fn told_label(alloc: Global, resource: &Resource, attribute: usize) -> Result<Told, AllocError> {
     let key = key_at(resource, attribute);
-    format!(in alloc;
-        "error: '--resource': the key '{key}' has no letter and no digit for a label\n"
-    )
+    let words = format!(in alloc;
+        "error: '--resource': the key '{key}' has no letter and no digit for a label"
+    )?;
+    Told::of_words(alloc, words)
 }
 
 fn told_labels(
@@ -51,20 +55,22 @@ fn told_labels(
     resource: &Resource,
     attribute: usize,
     other: usize,
-) -> Result<String, AllocError> {
+) -> Result<Told, AllocError> {
     let key = key_at(resource, attribute);
     let also = key_at(resource, other);
-    format!(in alloc;
-        "error: '--resource': the keys '{key}' and '{also}' are one label in a page\n"
-    )
+    let words = format!(in alloc;
+        "error: '--resource': the keys '{key}' and '{also}' are one label in a page"
+    )?;
+    Told::of_words(alloc, words)
 }
 
-fn told_reader(alloc: Global, config: &str, name: &Option<Text>) -> Result<String, AllocError> {
+fn told_reader(alloc: Global, config: &str, name: &Option<Text>) -> Result<Told, AllocError> {
     let name = match name {
         Some(name) => name.as_str(),
         None => "",
     };
-    format!(in alloc; "{config}: no reader is named '{name}'\n")
+    let words = format!(in alloc; "no reader is named '{name}'")?;
+    Told::of_file(alloc, config, words.as_str())
 }
 
 // The key of an attribute.
@@ -81,13 +87,13 @@ fn told_exposure(
     files: &Files,
     texts: Option<&Texts>,
     fault: ExposureFault,
-) -> Result<String, AllocError> {
+) -> Result<Told, AllocError> {
     let Some(texts) = texts else {
-        return format!(in alloc; "{fault}\n");
+        return Told::of_words(alloc, format!(in alloc; "{fault}")?);
     };
     match declared_of(alloc, &texts.parts) {
         Ok(declared) => told_of_declared(alloc, files, texts, &declared, fault),
-        Err(fault) => told_plain(alloc, fault),
+        Err(fault) => Told::plain(alloc, fault),
     }
 }
 
@@ -97,9 +103,9 @@ fn told_of_declared(
     texts: &Texts,
     declared: &Declared,
     fault: ExposureFault,
-) -> Result<String, AllocError> {
+) -> Result<Told, AllocError> {
     let streams = resolve_streams(alloc, &declared.catalogue, &declared.config)?;
     let pair = pair_of(files, texts, declared);
     let told = diagnose_exposure(alloc, pair, streams.as_slice(), Outlet::Prometheus, fault);
-    spelled(alloc, told)
+    Told::diagnosed(alloc, told)
 }

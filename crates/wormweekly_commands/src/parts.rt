@@ -12,13 +12,15 @@ use metric_parts::Parts;
 use metric_short::{ShortFault, in_full};
 use std::alloc::{AllocError, Global};
 
-/// The texts of a request's files: the old parts of a comparison, the parts that a command reads, and the script.
+/// The texts of a request's files: the old parts of a comparison, the parts that a command reads, the script, and the
+/// changes that are accepted.
 pub(crate) struct Texts {
     // The name of the catalogue's file, which says where its text is an expansion.
     pub name: Text,
     pub old: Option<Parts<'static>>,
     pub parts: Parts<'static>,
     pub script: Option<Text>,
+    pub accepted: Option<Text>,
 }
 
 impl Drop for Texts {
@@ -28,6 +30,7 @@ impl Drop for Texts {
             name: _name,
             parts: _parts,
             script: _script,
+            accepted: _accepted,
         } = self;
     }
 }
@@ -48,6 +51,7 @@ pub(crate) fn texts_of<F: Folder>(
     } = catalogue_at(alloc, folder, &files.catalogue, Role::Catalogue)?;
     let config = text_at(alloc, folder, &files.config, Role::Config)?;
     let certificate = optional_text(alloc, folder, &files.certificate, Role::Certificate)?;
+    let accepted = optional_text(alloc, folder, &files.accepted, Role::Accepted)?;
     let script = optional_text(alloc, folder, &files.script, Role::Script)?;
     let parts = Parts {
         catalogue,
@@ -60,6 +64,7 @@ pub(crate) fn texts_of<F: Folder>(
         old,
         parts,
         script,
+        accepted,
     })
 }
 

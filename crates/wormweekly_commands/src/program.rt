@@ -10,9 +10,11 @@ ghost use Rattle.wormweekly_commands.specs.Runs.{Reports, RunsTexts, known_by, w
 ghost use Rattle.wormweekly_commands.specs.Reporting.{RefusesReport};
 ghost use Rattle.wormweekly_commands.specs.Told.{IsLineEnd};
 
+use crate::accepting::{accepted_of, tell_unused};
 use crate::answer::answer_of;
 use crate::change_sheet::ChangeSheet;
-use crate::comparing::{Comparison, comparison_of, diff_status};
+use crate::comparing::{comparison_of, diff_status};
+use crate::concerns::{still_open, told_changes};
 use crate::delivering::{deliver, print, print_sheet, put};
 use crate::drawing::run_draw;
 use crate::expanding::run_expand;
@@ -24,7 +26,7 @@ use crate::refused::tell_refused;
 use crate::replaying::{is_trial, replay_in_form, scripted};
 use crate::report::report_of;
 use crate::report_page::report_page;
-use crate::telling::{stop, tell_line, warn};
+use crate::telling::{stop_in_form, tell_line, warn};
 use metric_base::Text;
 use metric_command_lines::{Files, Request, RequestFault, Task};
 use metric_io::Sink;
@@ -34,17 +36,18 @@ use metric_sheet::Sheet;
 use metric_text::lines;
 use std::alloc::Global;
 
-/// Runs what a command line asks for, in a folder and into a sink, tells on `errors` why it stops, and gives the
-/// program's exit status: 0 where it is done, 1 where what is asked for is refused or denied, 2 where the words name no
-/// command or a file to write to that is read, 3 where a file cannot be read or has a fault, 4 when out of memory, 5
-/// where a write failed. A table is `columns` wide at most where the request does not say how wide; 0 means that it may be as
-/// wide as it likes.
-pub fn run_request<F: Folder, W: Sink, E: Sink>(
+/// Runs what a command line asks for, in a folder and into a sink, tells on `errors` why it stops, or on `faults` where
+/// lines of JSON are asked for and the fault is of files, and gives the program's exit status: 0 where it is done, 1 where
+/// what is asked for is refused or denied, 2 where the words name no command or a file to write to that is read, 3 where a
+/// file cannot be read or has a fault, 4 when out of memory, 5 where a write failed. A table is `columns` wide at most
+/// where the request does not say how wide; 0 means that it may be as wide as it likes.
+pub fn run_request<F: Folder, W: Sink, X: Sink, E: Sink>(
     alloc: Global,
     request: Result<Request, RequestFault>,
     columns: u32,
     folder: &mut F,
     sink: &mut W,
+    faults: &mut X,
     errors: &mut E,
 ) -> u8
     ensures asked { IfOk request (λ asked. RunsRequest (known_by F.held F.same folder.old) asked
@@ -55,17 +58,18 @@ pub fn run_request<F: Folder, W: Sink, E: Sink>(
     ensures unmade { OnErr request (folder.new ≡ folder.old) }
 {
     match request {
-        Ok(request) => run_asked(alloc, &request, columns, folder, sink, errors),
+        Ok(request) => run_asked(alloc, &request, columns, folder, sink, faults, errors),
         Err(fault) => tell_line(fault, sink, errors),
     }
 }
 
-fn run_asked<F: Folder, W: Sink, E: Sink>(
+fn run_asked<F: Folder, W: Sink, X: Sink, E: Sink>(
     alloc: Global,
     request: &Request,
     columns: u32,
     folder: &mut F,
     sink: &mut W,
+    faults: &mut X,
     errors: &mut E,
 ) -> u8
     ensures { RunsRequest (known_by F.held F.same folder.old) request.now
@@ -75,17 +79,18 @@ fn run_asked<F: Folder, W: Sink, E: Sink>(
     if request.task == Task::Expand {
         run_expand(alloc, request, folder, sink, errors)
     } else {
-        run_files(alloc, request, columns, folder, sink, errors)
+        run_files(alloc, request, columns, folder, sink, faults, errors)
     }
 }
 
 // Runs a command on its files, and tells how it ends.
-fn run_files<F: Folder, W: Sink, E: Sink>(
+fn run_files<F: Folder, W: Sink, X: Sink, E: Sink>(
     alloc: Global,
     request: &Request,
     columns: u32,
     folder: &mut F,
     sink: &mut W,
+    faults: &mut X,
     errors: &mut E,
 ) -> u8
     requires { request.now.task ≢ Task.Expand }
@@ -94,21 +99,16 @@ fn run_files<F: Folder, W: Sink, E: Sink>(
         (sink_run W.contents W.failures sink.old sink.new) result }
 {
     if let Some(role) = overwritten(folder, &request.files) {
-        return stop(
-            alloc,
-            request,
-            None,
-            ConsoleFault::Overwrites { role },
-            errors,
-        );
+        let fault = ConsoleFault::Overwrites { role };
+        return stop_in_form(alloc, request, None, fault, faults, errors);
     }
     let texts = match texts_of(alloc, folder, &request.files) {
         Ok(texts) => texts,
-        Err(fault) => return stop(alloc, request, None, fault, errors),
+        Err(fault) => return stop_in_form(alloc, request, None, fault, faults, errors),
     };
     match run_texts(alloc, request, &texts, columns, folder, sink, errors) {
         Ok(status) => status,
-        Err(fault) => stop(alloc, request, Some(&texts), fault, errors),
+        Err(fault) => stop_in_form(alloc, request, Some(&texts), fault, faults, errors),
     }
 }
 
@@ -172,7 +172,7 @@ fn run_texts<F: Folder, W: Sink, E: Sink>(
     if request.task == Task::Replay {
         run_replay(alloc, request, texts, sink, errors)
     } else if request.task == Task::Diff {
-        run_diff(alloc, request, texts, columns, sink)
+        run_diff(alloc, request, texts, columns, sink, errors)
     } else if request.task == Task::Report {
         run_report(alloc, request, texts, folder, sink)
     } else if request.task == Task::Draw {
@@ -216,12 +216,13 @@ fn run_answer<F: Folder, W: Sink, E: Sink>(
 
 // Compares old files with new ones, and writes what differs. The exit status.
 #[tactic(auto, using(crate::proofs::Devices::device_is_not_refused))]
-fn run_diff<W: Sink>(
+fn run_diff<W: Sink, E: Sink>(
     alloc: Global,
     request: &Request,
     texts: &Texts,
     columns: u32,
     sink: &mut W,
+    errors: &mut E,
 ) -> Result<u8, ConsoleFault>
     ensures ok { IfOk result (Compares request.now texts.now) }
     ensures first { IfErr result (RefusesDiff texts.now) }
@@ -229,26 +230,34 @@ fn run_diff<W: Sink>(
         → W.contents sink.new ≡ W.contents sink.old) }
 {
     let comparison = comparison_of(alloc, texts)?;
-    print_comparison(alloc, request, &comparison, columns, sink)?;
-    let changes = comparison.changes.as_slice();
-    Ok(diff_status(request.options.deny_breaking, changes))
+    let allowed = request.concerns.allowed.as_slice();
+    let told = told_changes(alloc, comparison.changes.as_slice(), allowed)?;
+    let sheet = ChangeSheet {
+        comparison: &comparison,
+        changes: told.as_slice(),
+    };
+    let accepted = accepted_of(alloc, &sheet, &texts.accepted)?;
+    let left = still_open(alloc, told.as_slice(), &accepted.changes)?;
+    print_changes(alloc, request, &sheet, columns, sink)?;
+    tell_unused(alloc, &request.files, &accepted, errors);
+    let denied = request.concerns.denied.as_slice();
+    Ok(diff_status(denied, left.as_slice()))
 }
 
 // Writes what differs, as a table or as lines of JSON.
-fn print_comparison<W: Sink>(
+fn print_changes<W: Sink>(
     alloc: Global,
     request: &Request,
-    comparison: &Comparison,
+    sheet: &ChangeSheet<'_>,
     columns: u32,
     sink: &mut W,
 ) -> Result<(), KitFault>
     ensures { IfErr result IsDeviceFault }
 {
-    let sheet = ChangeSheet { comparison };
     if sheet.rows() == 0 && !request.options.json {
         return print(sink, "nothing differs\n");
     }
-    print_sheet(alloc, sink, &sheet, request.options, columns)
+    print_sheet(alloc, sink, sheet, request.options, columns)
 }
 
 // Writes a report. The exit status.

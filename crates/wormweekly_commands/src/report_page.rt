@@ -2,23 +2,31 @@
 use crate::change_sheet::ChangeSheet;
 use crate::comparing::Comparison;
 use crate::note_sheet::NoteSheet;
-use crate::noting::MOST_NOTES;
 use crate::parts::Texts;
 use crate::report::Report;
 use crate::rooms::RoomSheet;
 use crate::shares::{budget_shares, stream_shares};
 use crate::shown_path::shown;
-use metric_command_lines::Request;
+use crate::telling::told_kit;
+use metric_base::Text;
+use metric_command_lines::{Request, VERSION};
+use metric_kit_commands::{KitFault, certificate_text};
 use metric_sheet::{Sheet, push_html_table, push_html_text};
 use metric_text::{push_number, push_text};
 use std::alloc::{AllocError, Global};
 
-const HEAD: &str = "<!doctype html>
+const BEGIN: &str = "<!doctype html>
 <html lang=\"en\">
 <meta charset=\"utf-8\">
 <meta name=\"viewport\" content=\"width=device-width\">
 <meta http-equiv=\"Content-Security-Policy\" content=\"default-src 'none'; style-src 'unsafe-inline'\">
-<title>Metrics</title>
+<title>";
+
+const LEGEND: &str = "</div>
+<p>Blue: a view renames it or leaves something out. Dashed: nothing comes of it. Red: it is taken for another one.</p>
+<p>Made by wormweekly ";
+
+const STYLE: &str = "</title>
 <style>
 :root { color-scheme: light dark }
 body { font: 15px/1.5 system-ui, sans-serif; max-width: 80em; margin: 0 auto; padding: 1em }
@@ -27,11 +35,23 @@ h2 { font-size: 1.1em; margin-top: 2em; border-bottom: 1px solid #8888 }
 .table, .picture { overflow-x: auto }
 table { border-collapse: collapse; font-size: 0.9em }
 th, td { text-align: left; padding: 0.2em 0.8em 0.2em 0; border-bottom: 1px solid #8884 }
-td { max-width: 40em }
+td { min-width: 4em; max-width: 30em; overflow-wrap: anywhere }
+caption { text-align: left; padding: 0.5em 0 }
 th, td.number { white-space: nowrap }
-td.number { text-align: right; font-variant-numeric: tabular-nums }
+td.number { min-width: 0; text-align: right; font-variant-numeric: tabular-nums }
 meter { width: 6em }
+.refused { color: #c00; color: light-dark(#b00, #f88) }
 .picture { background: #fff; border: 1px solid #8884 }
+@page { size: A4 landscape; margin: 1cm }
+@media print {
+  body { max-width: none; padding: 0; font-size: 8pt }
+  .table, .picture { overflow: visible }
+  td { min-width: 0; padding-right: 0.4em }
+  th, td.number { white-space: normal }
+  tr { break-inside: avoid }
+  meter { display: none }
+  svg { max-width: 100%; height: auto }
+}
 </style>
 ";
 
@@ -43,7 +63,8 @@ pub(crate) fn report_page(
     report: &Report,
 ) -> Result<Vec<u8>, AllocError> {
     let mut page = Vec::new(alloc);
-    push_head(&mut page, request, report)?;
+    push_head(&mut page, request, texts, report)?;
+    push_safety(alloc, &mut page, request, texts)?;
     if let Some(comparison) = &report.comparison {
         push_changes(alloc, &mut page, comparison)?;
     }
@@ -55,13 +76,21 @@ pub(crate) fn report_page(
 }
 
 // What the page is of, and how much of each there is.
-fn push_head(page: &mut Vec<u8>, request: &Request, report: &Report) -> Result<(), AllocError> {
-    push_text(page, HEAD)?;
-    push_text(page, "<h1>Metrics of ")?;
-    push_html_text(page, shown(request.files.catalogue.as_str()))?;
-    push_text(page, " and ")?;
-    push_html_text(page, shown(request.files.config.as_str()))?;
+fn push_head(
+    page: &mut Vec<u8>,
+    request: &Request,
+    texts: &Texts,
+    report: &Report,
+) -> Result<(), AllocError> {
+    push_text(page, BEGIN)?;
+    push_title(page, request)?;
+    push_text(page, STYLE)?;
+    push_text(page, "<h1>")?;
+    push_title(page, request)?;
     push_text(page, "</h1>\n<p>")?;
+    if let Some(comparison) = &report.comparison {
+        push_breaks(page, comparison)?;
+    }
     push_count(page, "Instruments: ", report.rooms.rooms.len())?;
     push_count(page, ", streams: ", report.listing.streams.list().len())?;
     push_count(
@@ -70,7 +99,54 @@ fn push_head(page: &mut Vec<u8>, request: &Request, report: &Report) -> Result<(
         report.listing.streams.warnings().len(),
     )?;
     push_count(page, ", remarks: ", report.notes.count())?;
+    push_text(page, ".</p>\n<p>Fingerprints of what was read (FNV-1a): ")?;
+    push_print(page, &texts.parts.catalogue)?;
+    push_text(page, " and ")?;
+    push_print(page, &texts.parts.config)?;
     push_text(page, ".</p>\n")
+}
+
+// The fingerprint of a text.
+fn push_print(page: &mut Vec<u8>, text: &Text) -> Result<(), AllocError> {
+    let mut print: u64 = 0xCBF2_9CE4_8422_2325;
+    for byte in text.as_str().as_bytes() {
+        print = (print ^ u64::from(*byte)).wrapping_mul(0x0000_0100_0000_01B3);
+    }
+    push_number(page, print)
+}
+
+fn push_title(page: &mut Vec<u8>, request: &Request) -> Result<(), AllocError> {
+    push_text(page, "Metrics of ")?;
+    push_html_text(page, shown(request.files.catalogue.as_str()))?;
+    push_text(page, " and ")?;
+    push_html_text(page, shown(request.files.config.as_str()))
+}
+
+fn push_breaks(page: &mut Vec<u8>, comparison: &Comparison) -> Result<(), AllocError> {
+    let changes = comparison.changes.as_slice();
+    let breaking = changes.iter().filter(|change| change.is_breaking()).count();
+    push_count(page, "Changes: ", changes.len())?;
+    push_count(page, ", of which break: ", breaking)?;
+    push_text(page, ".</p>\n<p>")
+}
+
+// Whether the two files have a certificate, or why not.
+fn push_safety(
+    alloc: Global,
+    page: &mut Vec<u8>,
+    request: &Request,
+    texts: &Texts,
+) -> Result<(), AllocError> {
+    match certificate_text(alloc, &texts.parts) {
+        Ok(_) => push_text(page, "<p>They are safe: a certificate can be made.</p>\n"),
+        Err(KitFault::Memory) => Err(AllocError),
+        Err(fault) => {
+            let told = told_kit(alloc, &request.files, texts, fault)?;
+            push_text(page, "<p class=\"refused\">They have no certificate. ")?;
+            push_html_text(page, told.text.as_str().lines().next().unwrap_or(""))?;
+            push_text(page, "</p>\n")
+        }
+    }
 }
 
 fn push_count(page: &mut Vec<u8>, what: &str, count: usize) -> Result<(), AllocError> {
@@ -85,21 +161,26 @@ fn push_changes(
     comparison: &Comparison,
 ) -> Result<(), AllocError> {
     push_text(page, "<h2>What changes</h2>\n")?;
-    let sheet = ChangeSheet { comparison };
-    push_rows(alloc, page, &sheet, "<p>Nothing differs.</p>\n")
+    let sheet = ChangeSheet {
+        comparison,
+        changes: comparison.changes.as_slice(),
+    };
+    let caption = "What the old files give and the new ones do not, or otherwise";
+    push_rows(alloc, page, caption, &sheet, "<p>Nothing differs.</p>\n")
 }
 
 // A table, or what is said where it has no rows.
 fn push_rows<S: Sheet>(
     alloc: Global,
     page: &mut Vec<u8>,
+    caption: &str,
     sheet: &S,
     nothing: &str,
 ) -> Result<(), AllocError> {
     if sheet.rows() == 0 {
         push_text(page, nothing)
     } else {
-        push_html_table(alloc, page, sheet, &[])
+        push_html_table(alloc, page, caption, sheet, &[])
     }
 }
 
@@ -116,19 +197,17 @@ fn push_notes(
         request,
         texts,
         notes: &report.notes,
-        most: MOST_NOTES,
     };
-    push_rows(alloc, page, &sheet, "<p>Nothing.</p>\n")
+    let caption = "Remarks on the two files, with their places";
+    push_rows(alloc, page, caption, &sheet, "<p>Nothing.</p>\n")
 }
 
 // The streams, and how full the limit of each may become.
 fn push_streams(alloc: Global, page: &mut Vec<u8>, report: &Report) -> Result<(), AllocError> {
-    push_text(
-        page,
-        "<h2>Streams</h2>\n<p>Full: the series that a stream may have, of its limit.</p>\n",
-    )?;
+    push_text(page, "<h2>Streams</h2>\n")?;
+    let caption = "Full: the series that a stream may have, of its limit";
     let shares = stream_shares(alloc, &report.listing)?;
-    push_html_table(alloc, page, &report.listing, &shares)
+    push_html_table(alloc, page, caption, &report.listing, &shares)
 }
 
 // How often each instrument may be recorded, and how much of what is safe its budgets are.
@@ -138,10 +217,7 @@ fn push_budgets(
     request: &Request,
     report: &Report,
 ) -> Result<(), AllocError> {
-    push_text(
-        page,
-        "<h2>Budgets</h2>\n<p>Full: the budgets, of what is safe. They last at ",
-    )?;
+    push_text(page, "<h2>Budgets</h2>\n<p>They last at ")?;
     push_number(page, u64::from(request.options.rate))?;
     push_text(page, " recordings a second.</p>\n")?;
     let sheet = RoomSheet {
@@ -149,11 +225,17 @@ fn push_budgets(
         options: request.options,
     };
     let shares = budget_shares(alloc, &report.rooms)?;
-    push_html_table(alloc, page, &sheet, &shares)
+    let caption = "Full: the budgets, of what is safe";
+    push_html_table(alloc, page, caption, &sheet, &shares)
 }
 
 fn push_picture(page: &mut Vec<u8>, report: &Report) -> Result<(), AllocError> {
-    push_text(page, "<h2>Picture</h2>\n<div class=\"picture\">\n")?;
+    push_text(
+        page,
+        "<h2>Picture</h2>\n<div class=\"picture\" tabindex=\"0\">\n",
+    )?;
     push_text(page, report.picture.as_str())?;
-    push_text(page, "</div>\n</html>\n")
+    push_text(page, LEGEND)?;
+    push_text(page, VERSION)?;
+    push_text(page, ".</p>\n</html>\n")
 }

@@ -5,7 +5,7 @@ ghost use Rattle.wormweekly_commands.specs.Answers.{AreRooms};
 
 use crate::ending::ends_early;
 use crate::fleet::fleet_limit;
-use crate::rows::instrument_word;
+use crate::rows::{instrument_word, meter_name};
 use crate::time::lasting;
 use metric_advice::{Headroom, Limit, headrooms};
 use metric_base::Items;
@@ -18,8 +18,9 @@ use metric_resolve::resolve_streams;
 use metric_sheet::{Cell, Row, Sheet};
 use std::alloc::{AllocError, Global};
 
-static TITLES: [&str; 10] = [
+static TITLES: [&str; 11] = [
     "number",
+    "meter",
     "instrument",
     "kind",
     "total",
@@ -32,10 +33,11 @@ static TITLES: [&str; 10] = [
 ];
 
 // So many of them stand in each table: the last one only where it is asked how long recordings last.
-const MOST_TITLES: usize = 9;
+const MOST_TITLES: usize = 10;
 
-static FIELDS: [&str; 10] = [
+static FIELDS: [&str; 11] = [
     "number",
+    "meter",
     "instrument",
     "kind",
     "total",
@@ -121,6 +123,8 @@ impl RoomSheet<'_> {
     // What the instrument is, how often it may be recorded, and what would fail first.
     fn put_room(&self, row: &mut Row, number: usize, room: &Headroom, instrument: &Instrument) {
         row.number(number as u128);
+        let place = u32::try_from(number).unwrap_or(u32::MAX);
+        row.text(meter_name(&self.rooms.declared.catalogue, place));
         row.text(instrument.name.get().as_str());
         row.text(instrument_word(instrument.kind));
         self.put_lasting(row, room.total);
@@ -128,7 +132,7 @@ impl RoomSheet<'_> {
         row.text(limit_word(room.limit));
         row.text(self.fleet_word(number, room, instrument));
         if self.options.lasts > 0 {
-            row.text(early_word(ends_early(self.options, room)));
+            row.flag(ends_early(self.options, room));
         }
     }
 
@@ -160,17 +164,13 @@ fn lasting_cell(alloc: Global, recordings: u128, rate: u128) -> Result<Cell, All
     Ok(Cell::Text(lasting(alloc, recordings, rate)?))
 }
 
-fn early_word(ends_early: bool) -> &'static str {
-    if ends_early { "yes" } else { "no" }
-}
-
-// What fails first with one recording more, by the name that a fault of `make` has.
+// What fails first with one recording more, in words.
 fn limit_word(limit: Limit) -> &'static str {
     match limit {
-        Limit::Count => "CountRange",
-        Limit::Amount => "AmountRange",
-        Limit::SumLow => "SumLow",
-        Limit::SumHigh => "SumHigh",
-        Limit::Series { .. } => "LimitExceeded",
+        Limit::Count => "too many recordings",
+        Limit::Amount => "values too far apart",
+        Limit::SumLow => "the least sum",
+        Limit::SumHigh => "the greatest sum",
+        Limit::Series { .. } => "the limit of a stream",
     }
 }

@@ -1,11 +1,12 @@
 //! The cells of a stream's row.
-ghost use Rattle.std.specs.Prelude.{◌≡◌, IfOk};
+ghost use Rattle.std.specs.Prelude.{◌≡◌, IfOk, slice_index_or};
 ghost use Rattle.metric_bounds.specs.Sets.{sets_of};
+ghost use Rattle.wormweekly_commands.specs.Series.{series_of};
 ghost use Rattle.wormweekly_commands.specs.Tables.{IsWithin};
 
 use metric_bounds::{listed, product};
 use metric_catalogue::Catalogue;
-use metric_contents::{Instrument, Key, Kind};
+use metric_contents::{Instrument, Key, Kind, Meter};
 use metric_family::family_of;
 use metric_kit_commands::Declared;
 use metric_sheet::{Cell, Row};
@@ -56,9 +57,10 @@ pub(crate) fn put_stream(
     put_bounds(row, &declared.catalogue, totals, stream)
 }
 
-// The names of the reader, the instrument and the stream, and the unit.
+// The names of the reader, the meter, the instrument and the stream, and the unit.
 fn put_names(row: &mut Row, declared: &Declared, stream: &Stream) {
     row.text(reader_name(declared, stream));
+    row.text(meter_name(&declared.catalogue, stream.instrument));
     row.text(instrument_name(&declared.catalogue, stream.instrument));
     row.text(stream.name.get().as_str());
     row.text(stream.unit.get().as_str());
@@ -117,6 +119,19 @@ pub(crate) fn instrument_name(catalogue: &Catalogue, instrument: u32) -> &str {
         Some(instrument) => instrument.name.get().as_str(),
         None => "",
     }
+}
+
+/// The name of the meter of the instrument of a number.
+pub(crate) fn meter_name(catalogue: &Catalogue, instrument: u32) -> &str {
+    match meter_of(catalogue, instrument) {
+        Some(meter) => meter.name.as_str(),
+        None => "",
+    }
+}
+
+fn meter_of(catalogue: &Catalogue, instrument: u32) -> Option<&Meter> {
+    let instrument = catalogue.instruments().get(instrument as usize)?;
+    catalogue.meters().get(instrument.meter as usize)
 }
 
 /// What the points of a stream are, in a word.
@@ -182,8 +197,13 @@ fn sets_of(
 }
 
 // How often an instrument may be recorded.
-fn total_at(totals: &[u128], instrument: u32) -> u128 {
-    totals.get(instrument as usize).copied().unwrap_or(0)
+fn total_at(totals: &[u128], instrument: u32) -> u128
+    ensures { result ≡ slice_index_or totals.now instrument 0 }
+{
+    match totals.get(instrument as usize) {
+        Some(total) => *total,
+        None => 0,
+    }
 }
 
 // How a stream of so many sets and so many recordings stays within its limit.
@@ -210,7 +230,9 @@ pub(crate) fn series_of(
     catalogue: &Catalogue,
     totals: &[u128],
     stream: &Stream,
-) -> Result<u128, AllocError> {
+) -> Result<u128, AllocError>
+    ensures { IfOk result (λ series. series ≡ series_of catalogue.now totals.now stream.now) }
+{
     let (sets, _) = sets_of(alloc, catalogue, stream)?;
     Ok(sets.min(total_at(totals, stream.instrument)))
 }

@@ -4,9 +4,6 @@ use crate::rooms::Rooms;
 use crate::rows::series_of;
 use std::alloc::{AllocError, Global};
 
-// The greatest share that is shown.
-const MOST: u128 = 999;
-
 /// Of each stream the series that it may have, of its limit.
 pub(crate) fn stream_shares(alloc: Global, listing: &Listing) -> Result<Vec<u32>, AllocError> {
     let mut shares = Vec::new(alloc);
@@ -27,8 +24,8 @@ pub(crate) fn budget_shares(alloc: Global, rooms: &Rooms) -> Result<Vec<u32>, Al
     Ok(shares)
 }
 
-// So many hundredths are one number of another, rounded up and at most 999.
+// So many hundredths are one number of another, rounded up.
 fn share(part: u128, whole: u128) -> u32 {
     let hundredths = part.saturating_mul(100).div_ceil(whole.max(1));
-    u32::try_from(hundredths.min(MOST)).unwrap_or(u32::MAX)
+    u32::try_from(hundredths).unwrap_or(u32::MAX)
 }

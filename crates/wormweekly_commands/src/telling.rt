@@ -4,32 +4,36 @@ ghost use Rattle.wormweekly_commands.specs.Faults.{status_of};
 ghost use Rattle.wormweekly_commands.specs.Told.{IsLineEnd};
 
 use crate::answer::Answer;
-use crate::delivering::print;
+use crate::delivering::{flush, print};
 use crate::exposures::Exposure;
-use crate::fault::{ConsoleFault, Role};
-use crate::folder::{Unread, Unwritten};
+use crate::fault::{ConsoleFault, Role, of_sheet};
 use crate::listing::Listing;
 use crate::notes::Notes;
 use crate::page_words::told_page;
 use crate::parts::Texts;
 use crate::shown_path::shown;
 use crate::telling_old::told_old;
+use crate::told_fault::Told;
 use metric_advice::{Remark, remark_of};
 use metric_base::Text;
 use metric_command_lines::{Files, Misuse, Request, RequestFault};
 use metric_diagnosis::{
-    Diagnosis, NamedText, Pair, diagnose_catalogue, diagnose_certificate, diagnose_check,
-    diagnose_config, diagnose_exposure, diagnose_make, diagnose_remark,
+    NamedText, Pair, diagnose_catalogue, diagnose_certificate, diagnose_check, diagnose_config,
+    diagnose_exposure, diagnose_make, diagnose_remark,
 };
 use metric_io::Sink;
 use metric_kit_commands::{Declared, KitFault, declared_of};
 use metric_make::MakeFault;
+use metric_sheet::write_json;
 use std::alloc::{AllocError, Global};
 
 // The exit status where the words name no command, and where help cannot be written.
 const USAGE: u8 = 2;
 
 const UNWRITTEN: u8 = 5;
+
+// From this status on a fault is of memory or of a device, and of no file that is read.
+const OF_DEVICES: u8 = 4;
 
 // So many warnings are told, since the place of each is looked for in the texts.
 const MOST_WARNINGS: usize = 100;
@@ -57,11 +61,9 @@ pub(crate) fn tell_line<W: Sink, E: Sink>(fault: RequestFault, sink: &mut W, err
 // What is told of a misuse of an option.
 fn words_of(misuse: Misuse) -> &'static str {
     match misuse {
-        Misuse::Deny =>
-            "error: '--deny' knows 'remarks' and their kinds alone; try 'wormweekly lint --help'\n",
-        Misuse::Change => "error: '--deny' of 'diff' knows 'breaking' alone\n",
+        Misuse::Deny => "error: '--deny' knows no such kind; the help of the command lists them\n",
         Misuse::Allow =>
-            "error: '--allow' knows the kinds of remarks alone; try 'wormweekly lint --help'\n",
+            "error: '--allow' knows no such kind; the help of the command lists them\n",
         Misuse::Outlet => "error: '--for' knows 'prometheus' and 'otlp' alone\n",
         Misuse::Form => "error: '--as' knows no such form; try 'wormweekly replay --help'\n",
         Misuse::Audit => "error: '--audit' audits replies, and with '--as' none are printed\n",
@@ -92,6 +94,28 @@ fn misused<E: Sink>(text: &str, errors: &mut E) -> u8
     USAGE
 }
 
+/// Tells why a command stops, as a line of JSON on `faults` where that is asked for and the fault is of files, else on
+/// `errors`. Gives the exit status, which stands whatever becomes of the telling.
+pub(crate) fn stop_in_form<X: Sink, E: Sink>(
+    alloc: Global,
+    request: &Request,
+    texts: Option<&Texts>,
+    fault: ConsoleFault,
+    faults: &mut X,
+    errors: &mut E,
+) -> u8
+    ensures { result ≡ status_of fault }
+{
+    if !request.options.json || fault.status() >= OF_DEVICES {
+        return stop(alloc, request, texts, fault, errors);
+    }
+    let _told = match told(alloc, request, texts, fault) {
+        Ok(told) => print_told(alloc, faults, &told),
+        Err(_) => print(errors, "out of memory\n"),
+    };
+    fault.status()
+}
+
 /// Tells why a command stops, and gives the exit status, which stands whatever becomes of the telling.
 pub(crate) fn stop<E: Sink>(
     alloc: Global,
@@ -103,10 +127,18 @@ pub(crate) fn stop<E: Sink>(
     ensures { result ≡ status_of fault }
 {
     let _told = match told(alloc, request, texts, fault) {
-        Ok(text) => print(errors, text.as_str()),
+        Ok(told) => print(errors, told.text.as_str()),
         Err(_) => print(errors, "out of memory\n"),
     };
     fault.status()
+}
+
+// Writes a fault as a line of JSON.
+fn print_told<X: Sink>(alloc: Global, faults: &mut X, told: &Told) -> Result<(), KitFault> {
+    match write_json(alloc, faults, told) {
+        Ok(()) => flush(faults),
+        Err(fault) => Err(of_sheet(fault)),
+    }
 }
 
 /// Tells what is to be warned of beside an answer that is written, whatever becomes of the telling.
@@ -146,50 +178,36 @@ fn warnings_of(
     Ok(told)
 }
 
-// A fault for people, with its file and its place.
+// A fault with its file and its place.
 fn told(
     alloc: Global,
     request: &Request,
     texts: Option<&Texts>,
     fault: ConsoleFault,
-) -> Result<String, AllocError> {
+) -> Result<Told, AllocError> {
+    let files = &request.files;
     match fault {
-        ConsoleFault::Unread { role, cause } => told_unread(alloc, &request.files, role, cause),
-        ConsoleFault::Overwrites { role } => told_overwritten(alloc, &request.files, role),
-        ConsoleFault::Unwritten { cause } => told_unwritten(alloc, &request.files, cause),
+        ConsoleFault::Unread { role, cause } => {
+            Told::of_file(alloc, path_of(files, role), cause.words())
+        }
+        ConsoleFault::Overwrites { role } => told_overwritten(alloc, files, role),
+        ConsoleFault::Unwritten { cause } => Told::of_file(alloc, output_of(files), cause.words()),
         ConsoleFault::Page(fault) => told_page(alloc, request, texts, fault),
-        ConsoleFault::Old(fault) => told_old(alloc, &request.files, texts, fault),
+        ConsoleFault::Old(fault) => told_old(alloc, files, texts, fault),
         ConsoleFault::Kit(KitFault::Write) => {
-            String::from_str(alloc, "standard output: a write failed\n")
+            Told::of_file(alloc, "standard output", "a write failed")
         }
         ConsoleFault::Kit(fault) => match texts {
-            Some(texts) => told_kit(alloc, &request.files, texts, fault),
-            None => told_plain(alloc, fault),
+            Some(texts) => told_kit(alloc, files, texts, fault),
+            None => Told::plain(alloc, fault),
         },
     }
 }
 
-fn told_unread(
-    alloc: Global,
-    files: &Files,
-    role: Role,
-    cause: Unread,
-) -> Result<String, AllocError> {
-    let path = path_of(files, role);
-    let words = cause.words();
-    format!(in alloc; "{path}: {words}\n")
-}
-
-fn told_overwritten(alloc: Global, files: &Files, role: Role) -> Result<String, AllocError> {
-    let path = output_of(files);
+fn told_overwritten(alloc: Global, files: &Files, role: Role) -> Result<Told, AllocError> {
     let input = path_of(files, role);
-    format!(in alloc; "{path}: it is not written, since it is the file {input} that is read\n")
-}
-
-fn told_unwritten(alloc: Global, files: &Files, cause: Unwritten) -> Result<String, AllocError> {
-    let path = output_of(files);
-    let words = cause.words();
-    format!(in alloc; "{path}: {words}\n")
+    let words = format!(in alloc; "it is not written, since it is the file {input} that is read")?;
+    Told::of_file(alloc, output_of(files), words.as_str())
 }
 
 // The path of the file to write to.
@@ -200,8 +218,8 @@ fn output_of(files: &Files) -> &str {
     }
 }
 
-// What a file is called.
-fn path_of(files: &Files, role: Role) -> &str {
+/// What a file is called.
+pub(crate) fn path_of(files: &Files, role: Role) -> &str {
     shown(named(files, role))
 }
 
@@ -222,6 +240,10 @@ fn named(files: &Files, role: Role) -> &str {
             Some(path) => path.as_str(),
             None => "certificate",
         },
+        Role::Accepted => match &files.accepted {
+            Some(path) => path.as_str(),
+            None => "accepted changes",
+        },
         Role::Script => match &files.script {
             Some(path) => path.as_str(),
             None => "script",
@@ -229,28 +251,28 @@ fn named(files: &Files, role: Role) -> &str {
     }
 }
 
-// A fault that `metric_kit` has too, with its place and its cause where it has these.
-fn told_kit(
+/// A fault that `metric_kit` has too, with its place and its cause where it has these.
+pub(crate) fn told_kit(
     alloc: Global,
     files: &Files,
     texts: &Texts,
     fault: KitFault,
-) -> Result<String, AllocError> {
+) -> Result<Told, AllocError> {
     match fault {
         KitFault::Catalogue(fault) => {
             let source = source_of(&texts.name, &texts.parts.catalogue);
-            spelled(alloc, diagnose_catalogue(alloc, source, fault))
+            Told::diagnosed(alloc, diagnose_catalogue(alloc, source, fault))
         }
         KitFault::Config(fault) => {
             let source = source_of(&files.config, &texts.parts.config);
-            spelled(alloc, diagnose_config(alloc, source, fault))
+            Told::diagnosed(alloc, diagnose_config(alloc, source, fault))
         }
         KitFault::Make(fault) => told_make(alloc, files, texts, fault),
         KitFault::Input { line } => told_script(alloc, files, texts, line),
         KitFault::Certificate(_) | KitFault::Check(_) => {
             told_certificate(alloc, files, texts, fault)
         }
-        _ => told_plain(alloc, fault),
+        _ => Told::plain(alloc, fault),
     }
 }
 
@@ -260,20 +282,20 @@ fn told_certificate(
     files: &Files,
     texts: &Texts,
     fault: KitFault,
-) -> Result<String, AllocError> {
+) -> Result<Told, AllocError> {
     let (Some(path), Some(text)) = (&files.certificate, &texts.parts.certificate) else {
-        return told_plain(alloc, fault);
+        return Told::plain(alloc, fault);
     };
     match fault {
         KitFault::Certificate(fault) => {
             let source = source_of(path, text);
-            spelled(alloc, diagnose_certificate(alloc, source, fault))
+            Told::diagnosed(alloc, diagnose_certificate(alloc, source, fault))
         }
         KitFault::Check(fault) => {
             let source = source_of(path, text);
-            spelled(alloc, diagnose_check(alloc, source, fault))
+            Told::diagnosed(alloc, diagnose_check(alloc, source, fault))
         }
-        _ => told_plain(alloc, fault),
+        _ => Told::plain(alloc, fault),
     }
 }
 
@@ -283,13 +305,13 @@ fn told_make(
     files: &Files,
     texts: &Texts,
     fault: MakeFault,
-) -> Result<String, AllocError> {
+) -> Result<Told, AllocError> {
     match declared_of(alloc, &texts.parts) {
         Ok(declared) => {
             let pair = pair_of(files, texts, &declared);
-            spelled(alloc, diagnose_make(alloc, pair, fault))
+            Told::diagnosed(alloc, diagnose_make(alloc, pair, fault))
         }
-        Err(fault) => told_plain(alloc, fault),
+        Err(fault) => Told::plain(alloc, fault),
     }
 }
 
@@ -310,30 +332,23 @@ pub(crate) fn pair_of<'t>(files: &'t Files, texts: &'t Texts, declared: &'t Decl
     }
 }
 
-/// What is told of a fault, with the line that it is in, where both could be made.
-pub(crate) fn spelled<F: Drop>(
-    alloc: Global,
-    told: Result<Diagnosis<'_, F>, AllocError>,
-) -> Result<String, AllocError> {
-    let told = told?;
-    let excerpt = told.excerpt();
-    format!(in alloc; "{told}\n{excerpt}")
-}
-
 // The line of the script at which it is none; of one that no line starts, no place.
-fn told_script(
-    alloc: Global,
-    files: &Files,
-    texts: &Texts,
-    line: u64,
-) -> Result<String, AllocError> {
+fn told_script(alloc: Global, files: &Files, texts: &Texts, line: u64) -> Result<Told, AllocError> {
     let path = path_of(files, Role::Script);
     if line > lines_of(&texts.script) {
-        return format!(in alloc;
-            "{path}: no start line: a script begins with one, such as 'start 0'\n"
+        return Told::of_file(
+            alloc,
+            path,
+            "no start line: a script begins with one, such as 'start 0'",
         );
     }
-    format!(in alloc; "{path}:{line}:1: this line is no event, or none that may stand here\n")
+    let line = usize::try_from(line).unwrap_or(usize::MAX);
+    Told::of_line(
+        alloc,
+        path,
+        line,
+        "this line is no event, or none that may stand here",
+    )
 }
 
 // How many lines a script has.
@@ -342,11 +357,6 @@ fn lines_of(script: &Option<Text>) -> u64 {
         Some(text) => text.as_str().lines().count() as u64,
         None => 0,
     }
-}
-
-/// A fault as `metric_kit` tells it.
-pub(crate) fn told_plain(alloc: Global, fault: KitFault) -> Result<String, AllocError> {
-    format!(in alloc; "{fault}\n")
 }
 
 /// Puts what is told of an exposure last, with the line that it is in.
@@ -361,9 +371,11 @@ pub(crate) fn push_exposure(
     let pair = pair_of(files, texts, &notes.declared);
     let Exposure { outlet, fault } = exposure;
     let streams = notes.streams.as_slice();
-    let told = diagnose_exposure(alloc, pair, streams, outlet, fault);
-    let text = spelled(alloc, told)?;
-    note.push_str(text.as_str())
+    let told = Told::diagnosed(
+        alloc,
+        diagnose_exposure(alloc, pair, streams, outlet, fault),
+    )?;
+    note.push_str(told.text.as_str())
 }
 
 /// Puts what a remark says last, with the line that it is in.
@@ -376,6 +388,6 @@ pub(crate) fn push_note(
     remark: Remark,
 ) -> Result<(), AllocError> {
     let pair = pair_of(files, texts, declared);
-    let text = spelled(alloc, diagnose_remark(alloc, pair, remark))?;
-    note.push_str(text.as_str())
+    let told = Told::diagnosed(alloc, diagnose_remark(alloc, pair, remark))?;
+    note.push_str(told.text.as_str())
 }

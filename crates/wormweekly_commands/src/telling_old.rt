@@ -1,6 +1,7 @@
 //! What a person is told of a fault of the old files of a comparison.
 use crate::parts::Texts;
-use crate::telling::{source_of, spelled, told_plain};
+use crate::telling::source_of;
+use crate::told_fault::Told;
 use metric_base::Text;
 use metric_command_lines::Files;
 use metric_diagnosis::{NamedText, diagnose_catalogue, diagnose_config};
@@ -13,7 +14,7 @@ pub(crate) fn told_old(
     files: &Files,
     texts: Option<&Texts>,
     fault: KitFault,
-) -> Result<String, AllocError> {
+) -> Result<Told, AllocError> {
     let Some(
         Texts {
             old: Some(parts),
@@ -21,18 +22,18 @@ pub(crate) fn told_old(
         },
     ) = texts
     else {
-        return told_plain(alloc, fault);
+        return Told::plain(alloc, fault);
     };
     match fault {
         KitFault::Catalogue(fault) => {
             let source = named(&files.old_catalogue, &parts.catalogue);
-            spelled(alloc, diagnose_catalogue(alloc, source, fault))
+            Told::diagnosed(alloc, diagnose_catalogue(alloc, source, fault))
         }
         KitFault::Config(fault) => {
             let source = named(&files.old_config, &parts.config);
-            spelled(alloc, diagnose_config(alloc, source, fault))
+            Told::diagnosed(alloc, diagnose_config(alloc, source, fault))
         }
-        _ => told_plain(alloc, fault),
+        _ => Told::plain(alloc, fault),
     }
 }
 

@@ -22,6 +22,9 @@ pub(crate) const MOST_INSTANCES: u64 = 1_000_000;
 
 const MOST_SECONDS: u64 = 1_000_000_000;
 
+/// The version of the program.
+pub const VERSION: &str = "0.4.0";
+
 const ABOUT: &str = "Tells before a deploy what a catalogue and a config of metrics will give.";
 
 const EXAMPLE: &str = "Example:
@@ -106,7 +109,7 @@ pub(crate) fn with_argument<'a>(
 fn bare<'a>(alloc: Global) -> Command<'a>
     ensures { app_of result ≡ bare_app }
 {
-    named(alloc, "wormweekly", ABOUT, EXAMPLE).version("0.4.0")
+    named(alloc, "wormweekly", ABOUT, EXAMPLE).version(VERSION)
 }
 
 // A command, with what it does and an example.

@@ -10,11 +10,9 @@ use std::alloc::{AllocError, Global};
 /// What an option does not take.
 #[derive(Clone, Copy, Debug, PartialEq, Eq, Drop)]
 pub enum Misuse {
-    /// `--deny` was given something else than `remarks` or a kind of them.
+    /// `--deny` was given no kind of remark, or of `diff` of change, nor the word for all.
     Deny,
-    /// `--deny` of `diff` was given something else than `breaking`.
-    Change,
-    /// `--allow` was given no kind of remark that there is.
+    /// `--allow` was given no such kind.
     Allow,
     /// `--for` was given no way out that there is.
     Outlet,

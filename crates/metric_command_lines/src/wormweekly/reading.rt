@@ -8,7 +8,7 @@ ghost use Rattle.metric_command_lines.specs.Attributes.{resource_in};
 ghost use Rattle.metric_command_lines.specs.RequestFaults.{IsAllowed, IsMisuse, IsNoRequest, IsNotAsked, IsOwn};
 ghost use Rattle.metric_command_lines.specs.Standard.{output_of};
 ghost use Rattle.metric_command_lines.specs.Requests.{certificate_in, denies_else, files_in, form_in, form_of, forms_else, has_word, old_in, options_in, request_in, resource_asked, script_in, task_of, text_in};
-ghost use Rattle.metric_command_lines.specs.Requests.{allows_else, concerns_in, is_concern, is_denied, is_for, is_outlet, outlets_else, outlets_in, reads_else, words_in};
+ghost use Rattle.metric_command_lines.specs.Requests.{all_word, allows_else, concerns_in, is_concern, is_denied, is_for, is_outlet, outlets_else, outlets_in, reads_else, words_in};
 
 use crate::numbers::number_of;
 use crate::wormweekly::attributes::resource_of;
@@ -19,6 +19,7 @@ use crate::wormweekly::standard::{output_of, reads_twice};
 use clap::ArgMatches;
 use metric_advice::is_kind;
 use metric_base::{Items, Text};
+use metric_changes::is_change;
 use metric_resource::Resource;
 use std::alloc::{AllocError, Global};
 
@@ -72,16 +73,18 @@ fn named_request(
 ) -> Result<Request, RequestFault>
     ensures answers { IfOk result (λ request.
         request ≡ request_in (command.now, rows_of (found_of arguments.now))) }
-    ensures allowed { OnOk result (IsOk (resource_asked (rows_of (found_of arguments.now)))) }
+    ensures allowed { OnOk result (IsOk (resource_asked (task_of command.now)
+        (rows_of (found_of arguments.now)))) }
     ensures refused { IfErr result (λ fault.
         IsNotAsked fault (Some (command.now, rows_of (found_of arguments.now)))) }
 {
+    let task = task_of(command);
     let files = files_of(alloc, arguments)?;
-    let resource = resource_asked(alloc, arguments, &files)?;
+    let resource = resource_asked(alloc, task, arguments, &files)?;
     let concerns = concerns_in(alloc, arguments)?;
     let reader = optional(alloc, arguments, "reader")?;
     Ok(Request {
-        task: task_of(command),
+        task,
         files,
         options: options_of(arguments),
         concerns,
@@ -94,22 +97,20 @@ fn named_request(
 #[tactic(auto, unfolding(crate::specs::Requests::resource_asked))]
 fn resource_asked(
     alloc: Global,
+    task: Task,
     arguments: &ArgMatches<'_>,
     files: &Files,
 ) -> Result<Resource, RequestFault>
     requires { files.now ≡ files_in (rows_of (found_of arguments.now)) }
     ensures given { IfOk result (λ resource.
-        resource_asked (rows_of (found_of arguments.now)) ≡ Ok resource) }
+        resource_asked task (rows_of (found_of arguments.now)) ≡ Ok resource) }
     ensures refused { IfErr result (λ fault.
-        IsMisuse fault (resource_asked (rows_of (found_of arguments.now)))) }
+        IsMisuse fault (resource_asked task (rows_of (found_of arguments.now)))) }
 {
-    if denies_else(arguments) {
+    if denies_else(task, arguments) {
         return Err(RequestFault::Misused(Misuse::Deny));
     }
-    if has_text(arguments, "denied") && !has_word(arguments, "denied", "breaking") {
-        return Err(RequestFault::Misused(Misuse::Change));
-    }
-    if allows_else(arguments) {
+    if allows_else(task, arguments) {
         return Err(RequestFault::Misused(Misuse::Allow));
     }
     if outlets_else(arguments) {
@@ -220,6 +221,7 @@ fn files_of(alloc: Global, arguments: &ArgMatches<'_>) -> Result<Files, AllocErr
     let catalogue = text_of(alloc, arguments, "catalogue")?;
     let config = text_of(alloc, arguments, "config")?;
     let certificate = certificate_of(alloc, arguments)?;
+    let accepted = optional(alloc, arguments, "accepted")?;
     let script = script_of(alloc, arguments)?;
     let output = output_in(alloc, arguments)?;
     Ok(Files {
@@ -228,6 +230,7 @@ fn files_of(alloc: Global, arguments: &ArgMatches<'_>) -> Result<Files, AllocErr
         catalogue,
         config,
         certificate,
+        accepted,
         script,
         output,
     })
@@ -290,7 +293,6 @@ fn options_of(arguments: &ArgMatches<'_>) -> Options
         rate: number_of(arguments, "rate"),
         instances: number_of(arguments, "instances"),
         lasts: number_of(arguments, "lasts"),
-        deny_breaking: has_word(arguments, "denied", "breaking"),
     }
 }
 
@@ -321,52 +323,65 @@ fn has_word(arguments: &ArgMatches<'_>, id: &str, word: &str) -> bool
     arguments.get_str(id) == Some(word)
 }
 
-// Whether a use of `--deny` names neither `remarks` nor a kind of them.
-fn denies_else(arguments: &ArgMatches<'_>) -> bool
-    ensures { result ≡ denies_else (rows_of (found_of arguments.now)) }
+// Whether a use of `--deny` names neither a kind nor all.
+fn denies_else(task: Task, arguments: &ArgMatches<'_>) -> bool
+    ensures { result ≡ denies_else task (rows_of (found_of arguments.now)) }
 {
     match arguments.get_strs("deny") {
-        Some(words) => has_other_than_denied(words),
+        Some(words) => has_other_than_denied(task, words),
         None => false,
     }
 }
 
-fn has_other_than_denied(words: &[&str]) -> bool
-    ensures { result ≡ list_any (λ w. not (is_denied w.now)) words.now }
+fn has_other_than_denied(task: Task, words: &[&str]) -> bool
+    ensures { result ≡ list_any (λ w. not (is_denied task w.now)) words.now }
 {
-    words.iter().any(|word| !is_denied(word))
+    words.iter().any(|word| !is_denied(task, word))
 }
 
-fn is_denied(word: &str) -> bool
-    ensures { result ≡ is_denied word.now }
+fn is_denied(task: Task, word: &str) -> bool
+    ensures { result ≡ is_denied task word.now }
 {
-    word == "remarks" || is_concern(word)
+    word == all_word(task) || is_concern(task, word)
 }
 
-// Whether a use of `--allow` names no kind of remark.
-fn allows_else(arguments: &ArgMatches<'_>) -> bool
-    ensures { result ≡ allows_else (rows_of (found_of arguments.now)) }
+// The word for all that may be denied.
+fn all_word(task: Task) -> &'static str
+    ensures { result.now ≡ all_word task }
+{
+    match task {
+        Task::Diff => "breaking",
+        _ => "remarks",
+    }
+}
+
+// Whether a use of `--allow` names no kind.
+fn allows_else(task: Task, arguments: &ArgMatches<'_>) -> bool
+    ensures { result ≡ allows_else task (rows_of (found_of arguments.now)) }
 {
     match arguments.get_strs("allow") {
-        Some(words) => has_other_than_concerns(words),
+        Some(words) => has_other_than_concerns(task, words),
         None => false,
     }
 }
 
-fn has_other_than_concerns(words: &[&str]) -> bool
-    ensures { result ≡ list_any (λ w. not (is_concern w.now)) words.now }
+fn has_other_than_concerns(task: Task, words: &[&str]) -> bool
+    ensures { result ≡ list_any (λ w. not (is_concern task w.now)) words.now }
 {
-    words.iter().any(|word| !is_concern(word))
+    words.iter().any(|word| !is_concern(task, word))
 }
 
-// Whether a word is a kind of remark.
-fn is_concern(word: &str) -> bool
-    ensures { result ≡ is_concern word.now }
+// Whether a word is a kind of what the command tells: of remark, or of change.
+fn is_concern(task: Task, word: &str) -> bool
+    ensures { result ≡ is_concern task word.now }
 {
-    word == "exposure" || is_kind(word)
+    match task {
+        Task::Diff => is_change(word),
+        _ => word == "exposure" || is_kind(word),
+    }
 }
 
-// Which remarks count.
+// Which remarks or changes count.
 fn concerns_in(alloc: Global, arguments: &ArgMatches<'_>) -> Result<Concerns, AllocError>
     ensures { IfOk result (λ concerns. concerns ≡ concerns_in (rows_of (found_of arguments.now))) }
 {

@@ -43,6 +43,8 @@ pub struct Files {
     pub config: Text,
     /// Where the certificate is, where the command has one.
     pub certificate: Option<Text>,
+    /// Where the changes are that are accepted, where the command has such a file.
+    pub accepted: Option<Text>,
     /// Where the script is, where the command has one.
     pub script: Option<Text>,
     /// The file to write to, in place of standard output; never `-`, which is that.
@@ -106,16 +108,14 @@ pub struct Options {
     pub instances: u32,
     /// How many seconds the recordings of each instrument are to last at the rate: 0 where it is not said.
     pub lasts: u32,
-    /// Whether a change that breaks something is an error.
-    pub deny_breaking: bool,
 }
 
-/// Which remarks count.
+/// Which remarks count, and of `diff` which changes.
 #[derive(Debug, Drop)]
 pub struct Concerns {
-    /// The kinds of remarks that are left out.
+    /// The kinds that are left out.
     pub allowed: Items<Text>,
-    /// The kinds of remarks that are errors; `remarks` stands for all.
+    /// The kinds that are errors; `remarks` stands for all remarks, and `breaking` for each change that breaks.
     pub denied: Items<Text>,
 }
 
@@ -128,7 +128,7 @@ pub struct Request {
     pub files: Files,
     /// How it is done.
     pub options: Options,
-    /// Which remarks count.
+    /// Which remarks or changes count.
     pub concerns: Concerns,
     /// The attributes of what produces the batches that a replay prints.
     pub resource: Resource,

@@ -29,7 +29,8 @@ pub(crate) fn reads_twice(files: &Files) -> bool
 {
     let old = times_of(&files.old_catalogue) + times_of(&files.old_config);
     let new = times_at(&files.catalogue) + times_at(&files.config);
-    old + new + times_of(&files.certificate) + times_of(&files.script) > 1
+    let beside = times_of(&files.certificate) + times_of(&files.accepted);
+    old + new + beside + times_of(&files.script) > 1
 }
 
 // 1 for standard input, else 0.

@@ -1,5 +1,5 @@
 -- one element more
-use Rattle.std.proofs.Common.{◌++◌, List, take_all, ap, ◌∙◌, arith}
+use Rattle.std.proofs.Common.{◌++◌, take_all, ap, ◌∙◌, arith}
 use Rattle.std.specs.List.{enumerate_from, flat_map}
 use Rattle.metric_changes.proofs.Lists.{numbered_turn}
 use Rattle.metric_changes.proofs.each.tell_each.Goals as goal

@@ -8,12 +8,12 @@ pub returns-in-Some : goal.returns-in-Some
 returns-in-Some g c = record {
   end = Err (Overwrites c.in-Some.role);
   runs = inl (c.in-Some.ensures, (refl, refl));
-  is_status = c.stop.ensures;
+  is_status = c.stop_in_form.ensures;
 }
 
 pub returns-in-Err : goal.returns-in-Err
 returns-in-Err g c = record {
   end = Err c.in-Err.fault;
   runs = inl (unread_is_unstarted (g.F.Folder.same c.args.folder.now) c.args.request.now.files c.in-Err.fault c.in-Err.ensures.unread, (refl, refl));
-  is_status = c.stop-in-Err.ensures;
+  is_status = c.stop_in_form-in-Err.ensures;
 }

@@ -11,11 +11,11 @@ use Rattle.metric_command_lines.proofs.wormweekly.reading.allows_else.Goals as g
 pub returns-in-Some : goal.returns-in-Some
 returns-in-Some c =
     c.has_other_than_concerns.ensures
-    ∙ any_lent (λ word. not (is_concern word)) c.in-Some.words.now
-    ∙ ap (λ (read : Option (Bor (List (Bor Text)))). list_any (λ word. not (is_concern word)) (unwrap_or (option_map (λ s. map (λ v. v.now) s.now) read) [])) (sym c.in-Some.is)
-    ∙ ap (λ (read : Option (List Text)). list_any (λ word. not (is_concern word)) (unwrap_or read [])) (c.get_strs.ensures ∙ raw_values-rows (found_of c.args.arguments.now) (codes "allow"))
+    ∙ any_lent (λ word. not (is_concern c.args.task word)) c.in-Some.words.now
+    ∙ ap (λ (read : Option (Bor (List (Bor Text)))). list_any (λ word. not (is_concern c.args.task word)) (unwrap_or (option_map (λ s. map (λ v. v.now) s.now) read) [])) (sym c.in-Some.is)
+    ∙ ap (λ (read : Option (List Text)). list_any (λ word. not (is_concern c.args.task word)) (unwrap_or read [])) (c.get_strs.ensures ∙ raw_values-rows (found_of c.args.arguments.now) (codes "allow"))
 
 pub returns-in-None : goal.returns-in-None
 returns-in-None c =
-    ap (λ (read : Option (Bor (List (Bor Text)))). list_any (λ word. not (is_concern word)) (unwrap_or (option_map (λ s. map (λ v. v.now) s.now) read) [])) (sym c.in-None.is)
-    ∙ ap (λ (read : Option (List Text)). list_any (λ word. not (is_concern word)) (unwrap_or read [])) (c.get_strs.ensures ∙ raw_values-rows (found_of c.args.arguments.now) (codes "allow"))
+    ap (λ (read : Option (Bor (List (Bor Text)))). list_any (λ word. not (is_concern c.args.task word)) (unwrap_or (option_map (λ s. map (λ v. v.now) s.now) read) [])) (sym c.in-None.is)
+    ∙ ap (λ (read : Option (List Text)). list_any (λ word. not (is_concern c.args.task word)) (unwrap_or read [])) (c.get_strs.ensures ∙ raw_values-rows (found_of c.args.arguments.now) (codes "allow"))

@@ -11,11 +11,11 @@ use Rattle.metric_command_lines.proofs.wormweekly.reading.denies_else.Goals as g
 pub returns-in-Some : goal.returns-in-Some
 returns-in-Some c =
     c.has_other_than_denied.ensures
-    ∙ any_lent (λ word. not (is_denied word)) c.in-Some.words.now
-    ∙ ap (λ (read : Option (Bor (List (Bor Text)))). list_any (λ word. not (is_denied word)) (unwrap_or (option_map (λ s. map (λ v. v.now) s.now) read) [])) (sym c.in-Some.is)
-    ∙ ap (λ (read : Option (List Text)). list_any (λ word. not (is_denied word)) (unwrap_or read [])) (c.get_strs.ensures ∙ raw_values-rows (found_of c.args.arguments.now) (codes "deny"))
+    ∙ any_lent (λ word. not (is_denied c.args.task word)) c.in-Some.words.now
+    ∙ ap (λ (read : Option (Bor (List (Bor Text)))). list_any (λ word. not (is_denied c.args.task word)) (unwrap_or (option_map (λ s. map (λ v. v.now) s.now) read) [])) (sym c.in-Some.is)
+    ∙ ap (λ (read : Option (List Text)). list_any (λ word. not (is_denied c.args.task word)) (unwrap_or read [])) (c.get_strs.ensures ∙ raw_values-rows (found_of c.args.arguments.now) (codes "deny"))
 
 pub returns-in-None : goal.returns-in-None
 returns-in-None c =
-    ap (λ (read : Option (Bor (List (Bor Text)))). list_any (λ word. not (is_denied word)) (unwrap_or (option_map (λ s. map (λ v. v.now) s.now) read) [])) (sym c.in-None.is)
-    ∙ ap (λ (read : Option (List Text)). list_any (λ word. not (is_denied word)) (unwrap_or read [])) (c.get_strs.ensures ∙ raw_values-rows (found_of c.args.arguments.now) (codes "deny"))
+    ap (λ (read : Option (Bor (List (Bor Text)))). list_any (λ word. not (is_denied c.args.task word)) (unwrap_or (option_map (λ s. map (λ v. v.now) s.now) read) [])) (sym c.in-None.is)
+    ∙ ap (λ (read : Option (List Text)). list_any (λ word. not (is_denied c.args.task word)) (unwrap_or read [])) (c.get_strs.ensures ∙ raw_values-rows (found_of c.args.arguments.now) (codes "deny"))
