@@ -113,6 +113,17 @@ static const wormweekly_attribute NINE[] = {
     { 1, WORMWEEKLY_YES, 0, 0 }, { 1, WORMWEEKLY_YES, 0, 0 }, { 1, WORMWEEKLY_YES, 0, 0 },
 };
 
+static const wormweekly_pair PAIRS[] = { { .key = "paid", .kind = WORMWEEKLY_YES }, { .key = "country", .text = "de" } };
+static const wormweekly_pair PAIRS_7[] = { { .key = "country", .text = "fr" },
+                                           { .key = "paid", .kind = WORMWEEKLY_WHOLE, .whole = 7 } };
+static const wormweekly_pair PAIRS_UK[] = { { .key = "country", .text = "uk" }, { .key = "paid", .kind = WORMWEEKLY_YES } };
+static const wormweekly_pair NO_PAIR[] = { { .key = NULL, .text = NULL } };
+static const wormweekly_pair PAIR_OF_NO_KIND[] = { { .key = "paid", .kind = 4 } };
+static const wormweekly_pair SERVICE_PAIR[] = { { .key = "service.name", .text = "shop" } };
+/* More than are looked at, and a text that takes memory, as `fill_keys` makes them. */
+static wormweekly_pair MANY_PAIRS[70], LONG_PAIR[1];
+static char long_text[2000];
+
 /* Far more than a recording looks at, each with a key of one byte, as `fill_keys` makes them; and so many keys. */
 static wormweekly_attribute KEYS[100000];
 #define KEYS_64 "ABCDEFGHIJKLMNOPQRSTUVWXYZabcdefghijklmnopqrstuvwxyz0123456789-+"
@@ -145,6 +156,8 @@ struct row {
     const char *texts;
     const wormweekly_attribute *given;
     size_t given_length;
+    const wormweekly_pair *pairs;
+    size_t pairs_length;
     int64_t value;
     uint64_t time, amount;
     size_t stream, point, key;
@@ -158,6 +171,7 @@ struct row {
 
 #define CALL(function) .line = __LINE__, .name = "wormweekly_" #function, .call = function
 #define GIVEN(list) .given = (list), .given_length = sizeof(list) / sizeof *(list)
+#define PAIRED(list) .pairs = (list), .pairs_length = sizeof(list) / sizeof *(list)
 #define ALL_HANDLES .handles = { INSTRUMENTS, RECORDERS, READERS }
 #define ALL_RECORDERS .recorder = DAY, .handles.recorders = RECORDERS
 #define SECOND_RUN .instrument = INSTRUMENTS, .recorder = RECORDERS, .reader = READERS
@@ -258,6 +272,24 @@ static struct told record(const struct row *row) {
                                       strlen(row->texts), row->given, row->given_length, row->value));
 }
 
+static struct told record_pairs(const struct row *row) {
+    return answered(wormweekly_record_pairs(&instruments[row->instrument], &recorders[row->recorder], row->pairs,
+                                            row->pairs_length, row->value));
+}
+
+static struct told prepare_pairs(const struct row *row) {
+    struct told told = answered(wormweekly_prepare_pairs(&recorders[row->recorder], row->number, row->pairs,
+                                                         row->pairs_length, &prepared));
+    told.numbers[0] = prepared.set[0];
+    told.numbers[1] = prepared.set[1];
+    return told;
+}
+
+static struct told version(const struct row *row) {
+    (void)row;
+    return (struct told){ .text = wormweekly_version() };
+}
+
 /* Writes the first entries of the set key. */
 static struct told prepare(const struct row *row) {
     struct told told = answered(wormweekly_prepare(&recorders[row->recorder], row->number, bytes(row->texts),
@@ -321,6 +353,25 @@ static struct told prometheus(const struct row *row) {
     uint32_t answer =
         wormweekly_prometheus(&readers[row->reader], row->kind, clear_buffer(), room_for(row, ROOM), &length);
     return told_text(answer, length);
+}
+
+/* Counts how often an instrument is held, and at 100 how often it is let go. */
+static void hold(void *host, size_t instrument, int is_held) {
+    (void)instrument;
+    *(int64_t *)host += is_held ? 1 : 100;
+}
+
+static struct told page(const struct row *row) {
+    size_t length = 0;
+    int64_t holds = 0;
+    uint32_t answer = wormweekly_page(&instruments[row->instrument], row->handles.instruments, &readers[row->reader],
+                                      row->time, row->kind, row->pairs, row->pairs_length, row->amount ? hold : NULL,
+                                      &holds, clear_buffer(), room_for(row, ROOM), &length);
+    /* what does not fit is no page */
+    if (answer == WORMWEEKLY_TOO_SHORT) clear_buffer();
+    struct told told = told_text(answer, length);
+    told.numbers[1] = holds;
+    return told;
 }
 
 static struct told prometheus_target(const struct row *row) {
@@ -469,6 +520,17 @@ static struct told range(const struct row *row) {
     struct told told = answered(wormweekly_range(&recorders[row->recorder], row->number, &out));
     told.numbers[0] = out.least;
     told.numbers[1] = out.greatest;
+    return told;
+}
+
+static struct told plan_stream(const struct row *row) {
+    wormweekly_plan_stream_out out = { 0, 0, 0, 0, 0 };
+    struct told told = answered(wormweekly_plan_stream(&recorders[row->recorder], row->stream, &out));
+    told.numbers[0] = (int64_t)out.instrument;
+    told.numbers[1] = (int64_t)out.reader;
+    told.numbers[2] = (int64_t)out.kind;
+    told.numbers[3] = (int64_t)out.aggregation;
+    told.numbers[4] = (int64_t)out.delta;
     return told;
 }
 
@@ -903,6 +965,11 @@ static const struct row QUEUE_ROWS[] = {
     { CALL(range), .recorder = NIGHT, .number = QUEUE, .numbers = { 0, 9 } },
     { CALL(range), .number = INSTRUMENTS, .answer = WORMWEEKLY_UNKNOWN },
     { CALL(range), .number = UINT32_MAX, .answer = WORMWEEKLY_UNKNOWN },
+    { CALL(plan_stream), .stream = 0, .numbers = { ORDERS, CONSOLE, 1, 0, 0 } },
+    { CALL(plan_stream), .stream = 2, .numbers = { QUEUE, CONSOLE, 3, 1, 0 } },
+    { CALL(plan_stream), .recorder = NIGHT, .stream = 4, .numbers = { ARTICLES, CHANGES, 2, 2, 1 } },
+    { CALL(plan_stream), .stream = 6, .answer = WORMWEEKLY_UNKNOWN },
+    { CALL(plan_stream), .stream = SIZE_MAX, .answer = WORMWEEKLY_UNKNOWN },
     { CALL(warnings), .text = WARNINGS },
     { CALL(warnings), .is_short = 1, .answer = WORMWEEKLY_TOO_SHORT, .numbers = { sizeof WARNINGS - 1 } },
 };
@@ -943,6 +1010,10 @@ static const struct row FREED_ROWS[] = {
     { CALL(ask), .recorder = NIGHT },
     { CALL(explain), .recorder = NIGHT, .texts = "countrydepaid", GIVEN(PAID) },
     { CALL(range), .recorder = NIGHT },
+    { CALL(record_pairs), .recorder = NIGHT, PAIRED(PAIRS) },
+    { CALL(prepare_pairs), .recorder = NIGHT, PAIRED(PAIRS) },
+    { CALL(page), .reader = CHANGES, .handles.instruments = 1, PAIRED(SERVICE_PAIR) },
+    { CALL(plan_stream), .recorder = NIGHT },
     { CALL(budget), .recorder = NIGHT },
     { CALL(headrooms), .recorder = NIGHT },
     { CALL(settle), ALL_RECORDERS },
@@ -977,6 +1048,45 @@ static const struct row TWIN_ROWS[] = {
     { CALL(settle), ALL_RECORDERS, .numbers = { 1, 0, 0, 5 } },
     { CALL(settle), .instrument = INSTRUMENTS, .recorder = RECORDERS, .handles.recorders = RECORDERS,
       .numbers = { 1, 0, 0, 7 } },
+};
+
+/* What is packed for other calls, in the second of these runs. */
+#define SCOPE "otel_scope_name=\"shop\",otel_scope_version=\"2\",otel_scope_schema_url=\"https://shop.example\"} "
+#define FIRST_LINES "# HELP orders_EUR what was paid\n# TYPE orders_EUR gauge\n"
+#define LAST_LINES "orders_EUR{country=\"de\",paid=\"true\"," SCOPE "14\norders_EUR{country=\"fr\",paid=\"7\"," SCOPE "2\n"
+static const char PAGE[] = FIRST_LINES LAST_LINES;
+static const char OPEN_PAGE[] = FIRST_LINES "# UNIT orders_EUR EUR\n" LAST_LINES "# EOF\n";
+static const char WITH_TARGET[] = "# HELP target_info Target metadata\n# TYPE target_info gauge\n"
+                                  "target_info{service_name=\"shop\"} 1\n" FIRST_LINES LAST_LINES;
+
+static const struct row PAIR_ROWS[] = {
+    { CALL(version), .text = WORMWEEKLY_VERSION },
+    { CALL(record_pairs), .instrument = INSTRUMENTS, .recorder = RECORDERS, PAIRED(PAIRS), .value = 7 },
+    { CALL(record_pairs), .instrument = INSTRUMENTS, .recorder = RECORDERS, PAIRED(PAIRS_7), .value = 2 },
+    { CALL(record_pairs), .instrument = INSTRUMENTS, .recorder = RECORDERS, PAIRED(PAIRS_UK),
+      .answer = WORMWEEKLY_UNKNOWN_VALUE },
+    { CALL(record_pairs), .instrument = INSTRUMENTS, .recorder = RECORDERS, PAIRED(NO_PAIR),
+      .answer = WORMWEEKLY_UNKNOWN_KEY },
+    { CALL(record_pairs), .instrument = INSTRUMENTS, .recorder = RECORDERS, .answer = WORMWEEKLY_MISSING_KEY },
+    { CALL(record_pairs), .instrument = INSTRUMENTS, .recorder = RECORDERS, PAIRED(PAIR_OF_NO_KIND),
+      .answer = WORMWEEKLY_NO_TEXT },
+    { CALL(record_pairs), .instrument = INSTRUMENTS, .recorder = RECORDERS, PAIRED(MANY_PAIRS),
+      .answer = WORMWEEKLY_DUPLICATE_KEY },
+    { CALL(record_pairs), .instrument = INSTRUMENTS, .recorder = RECORDERS, PAIRED(LONG_PAIR),
+      .answer = WORMWEEKLY_UNKNOWN_VALUE },
+    { CALL(prepare_pairs), .recorder = RECORDERS, .number = ORDERS, PAIRED(PAIRS_7), .numbers = { 2, 2 } },
+    { CALL(prepare_pairs), .recorder = RECORDERS, .number = ORDERS, PAIRED(LONG_PAIR), .numbers = { 2, 2 },
+      .answer = WORMWEEKLY_UNKNOWN_VALUE },
+    { CALL(page), .instrument = INSTRUMENTS, .reader = READERS, .handles.instruments = 1, .time = 20, .text = PAGE },
+    { CALL(page), .instrument = INSTRUMENTS, .reader = READERS, .handles.instruments = 1, .kind = 1, .amount = 1,
+      .numbers = { 0, 101 }, .text = OPEN_PAGE },
+    { CALL(page), .instrument = INSTRUMENTS, .reader = READERS, .handles.instruments = INSTRUMENTS, .amount = 1,
+      PAIRED(SERVICE_PAIR), .numbers = { 0, 303 }, .text = WITH_TARGET },
+    { CALL(page), .instrument = INSTRUMENTS, .reader = READERS, .handles.instruments = 1, .kind = 1, .is_short = 1,
+      .answer = WORMWEEKLY_TOO_SHORT, .numbers = { sizeof OPEN_PAGE - 1 } },
+    { CALL(page), .instrument = INSTRUMENTS, .reader = READERS, .handles.instruments = 1, .kind = 3,
+      .answer = WORMWEEKLY_UNKNOWN },
+    { CALL(page), .reader = READERS, .handles.instruments = 1, .answer = WORMWEEKLY_STRANGER },
 };
 
 static int passed;
@@ -1045,6 +1155,11 @@ static void fill_keys(void) {
     for (size_t at = 0; at < sizeof KEYS / sizeof *KEYS; at++) {
         KEYS[at] = (wormweekly_attribute){ 1, WORMWEEKLY_YES, 0, 0 };
     }
+    for (size_t at = 0; at < sizeof MANY_PAIRS / sizeof *MANY_PAIRS; at++) {
+        MANY_PAIRS[at] = PAIRS[0];
+    }
+    memset(long_text, 'x', sizeof long_text - 1);
+    LONG_PAIR[0] = (wormweekly_pair){ .key = "country", .text = long_text };
 }
 
 #define ROWS(table) (table), sizeof(table) / sizeof *(table)
@@ -1074,6 +1189,7 @@ int main(void) {
     check_freed(ROWS(ARTICLES_ROWS));
     check_freed(ROWS(QUEUE_ROWS));
     check(ROWS(TWIN_ROWS));
+    check(ROWS(PAIR_ROWS));
     /* Each is freed whole, whichever call frees it. */
     turn(3);
     free_all();

@@ -43,9 +43,10 @@ int main(void) {
         fwrite(text, 1, length < sizeof text ? length : sizeof text, stderr);
         return 1;
     }
-    /* One attribute: its key has 7 bytes, its value is a text of 2. */
+    const wormweekly_pair german = { .key = "country", .text = "de" }, french = { .key = "country", .text = "fr" };
+    printf("de: %u\n", wormweekly_record_pairs(&first.orders, &first.till, &german, 1, 2));
+    /* The same without packing: the key has 7 bytes, its value is a text of 2. */
     const wormweekly_attribute country = { 7, WORMWEEKLY_TEXT, 2, 0 };
-    printf("de: %u\n", wormweekly_record(&first.orders, &first.till, TEXT("countryde"), &country, 1, 2));
     printf("uk: %u\n", wormweekly_record(&first.orders, &first.till, TEXT("countryuk"), &country, 1, 1));
     wormweekly_explain(&first.till, 0, TEXT("countryuk"), &country, 1, 1, text, sizeof text, &length);
     printf("%.*s\n", (int)length, (const char *)text);
@@ -54,7 +55,7 @@ int main(void) {
     printf("left: %llu\n", (unsigned long long)budget.left);
     wormweekly_next(&first.till, 1000, &next.orders, 1, &next.till, 1, &next.console, 1, &counts);
     end(&first, 1000);
-    printf("fr: %u\n", wormweekly_record(&next.orders, &next.till, TEXT("countryfr"), &country, 1, 3));
+    printf("fr: %u\n", wormweekly_record_pairs(&next.orders, &next.till, &french, 1, 3));
     end(&next, 2000);
     return 0;
 }

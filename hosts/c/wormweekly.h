@@ -65,6 +65,10 @@
 extern "C" {
 #endif
 
+/* The version of the library, which a program compares with that of its header: until 1.0 another minor version may have changed
+ * calls. */
+const char *wormweekly_version(void);
+
 typedef struct { void *at; } wormweekly_instrument;
 typedef struct { void *at; } wormweekly_recorder;
 typedef struct { void *at; } wormweekly_reader;
@@ -134,6 +138,15 @@ typedef struct {
     int64_t whole;
 } wormweekly_attribute;
 
+/* An attribute by itself: its key, and its text, each with a 0 behind it; or a kind that is no text, and its number. So
+ * { .key = "country", .text = "de" } is a text. */
+typedef struct {
+    const char *key;
+    const char *text;
+    size_t kind;
+    int64_t whole;
+} wormweekly_pair;
+
 /* A recording whose set key wormweekly_prepare wrote; the value is the host's to write. */
 typedef struct {
     uint16_t set[8];
@@ -168,6 +181,16 @@ typedef struct {
     int64_t least;
     int64_t greatest;
 } wormweekly_range_out;
+
+/* A stream of the plan: the numbers of its instrument and its reader; and, as below, the kind of the instrument, how its points
+ * are made, and 1 where it is delta. */
+typedef struct {
+    uint64_t instrument;
+    uint64_t reader;
+    uint64_t kind;
+    uint64_t aggregation;
+    uint64_t delta;
+} wormweekly_plan_stream_out;
 
 /* How often an instrument may be recorded, all recorders together: as often as the catalogue declares, with what it spares; the
  * most that is safe while all else stays as it is; and what one more would break: a count (0), two sums 2^64 apart (1), the
@@ -262,10 +285,18 @@ uint32_t wormweekly_record(wormweekly_instrument *instrument, wormweekly_recorde
                            size_t texts_length, const wormweekly_attribute *attributes, size_t attributes_length,
                            int64_t value);
 
+/* The same of pairs. These are packed for it, so that it takes longer; texts of more than 1,024 bytes in all take memory. */
+uint32_t wormweekly_record_pairs(wormweekly_instrument *instrument, wormweekly_recorder *recorder,
+                                 const wormweekly_pair *pairs, size_t pairs_length, int64_t value);
+
 /* Finds the set key of attributes for the instrument of a number, counted from 0 as in the catalogue. Needs no mutex. */
 uint32_t wormweekly_prepare(wormweekly_recorder *recorder, uint32_t instrument, const uint8_t *texts, size_t texts_length,
                             const wormweekly_attribute *attributes, size_t attributes_length,
                             wormweekly_prepared *prepared);
+
+/* The same of pairs. */
+uint32_t wormweekly_prepare_pairs(wormweekly_recorder *recorder, uint32_t instrument, const wormweekly_pair *pairs,
+                                  size_t pairs_length, wormweekly_prepared *prepared);
 
 /* Writes what such a recording of a value is refused for, of what it says, as `orders: key "country" has no value "uk"`: the name
  * of the instrument, and the key, the value or the range of its first mistake. The words may change with each version, and are
@@ -323,6 +354,14 @@ uint32_t wormweekly_prometheus_target(uint32_t dialect, const uint8_t *texts, si
                                       const wormweekly_attribute *attributes, size_t attributes_length, uint8_t *out,
                                       size_t room, size_t *text_length);
 
+/* Writes a whole page of instruments, collected at a time in nanoseconds by a cumulative reader, with the pairs of a resource.
+ * Where `hold` is not NULL, it is called with `host` and the number of an instrument before that is collected (1) and after (0):
+ * lock its mutex, and unlock it. Where there is too little room, the length is written, and what is in the buffer is no page. */
+typedef void (*wormweekly_hold)(void *host, size_t instrument, int is_held);
+uint32_t wormweekly_page(wormweekly_instrument *instruments, size_t instruments_length, wormweekly_reader *reader,
+                         uint64_t now, uint32_t dialect, const wormweekly_pair *resource, size_t resource_length,
+                         wormweekly_hold hold, void *host, uint8_t *out, size_t room, size_t *text_length);
+
 /* THE BATCH POINT BY POINT, for a host that writes a format of its own. Streams, points and keys are numbered from 0, the
  * streams within the batch. WORMWEEKLY_UNKNOWN says that there is none of a number. Where there is too little room for a text,
  * its length is written all the same. None needs a mutex. */
@@ -359,6 +398,10 @@ uint32_t wormweekly_reader_name(wormweekly_reader *reader, uint32_t kind, uint32
 /* Writes the range of the instrument of a number, so that a host records a duration above it as the greatest value, rather than
  * not at all. Needs no mutex. */
 uint32_t wormweekly_range(wormweekly_recorder *recorder, uint32_t instrument, wormweekly_range_out *out);
+
+/* Writes what the stream of a number is, of all streams that the config gives the plan, from 0; WORMWEEKLY_UNKNOWN past the last
+ * one. So a host may add up recordings of its own where all streams of an instrument are sums. Needs no mutex. */
+uint32_t wormweekly_plan_stream(wormweekly_recorder *recorder, size_t number, wormweekly_plan_stream_out *out);
 
 /* Writes a line for each warning that the config gets: for each view that does not fit an instrument (streams that collide
  * are a fault of the opening). Where there is too little room, only the length is written. Needs no mutex. */

@@ -34,6 +34,23 @@ static uint32_t record_set(uint8_t *instrument, uint8_t *recorder, uint64_t low,
 
 typedef struct {
     uint32_t answer;
+    uint64_t low, high;
+} found;
+
+static found prepare_given(uint8_t *recorder, uint32_t instrument, const uint8_t *texts, size_t length,
+                           const wormweekly_attribute *attributes, size_t count) {
+    found out = { 0, 0, 0 };
+    wormweekly_prepared prepared;
+    out.answer = wormweekly_prepare((wormweekly_recorder *)recorder, instrument, texts, length, attributes, count, &prepared);
+    if (out.answer == WORMWEEKLY_DONE) {
+        memcpy(&out.low, prepared.set, sizeof out.low);
+        memcpy(&out.high, prepared.set + 4, sizeof out.high);
+    }
+    return out;
+}
+
+typedef struct {
+    uint32_t answer;
     size_t made;
 } listed;
 
@@ -42,6 +59,20 @@ static listed record_list(uint8_t *instrument, uint8_t *recorder, const wormweek
     done.answer = wormweekly_record_list((wormweekly_instrument *)instrument, (wormweekly_recorder *)recorder, list,
                                          length, &done.made);
     return done;
+}
+
+typedef struct {
+    uint32_t answer;
+    size_t made;
+    uint64_t left;
+} handed;
+
+// The same, with how many recordings are left.
+static handed hand_over(uint8_t *instrument, uint8_t *recorder, const wormweekly_prepared *list, size_t length) {
+    listed done = record_list(instrument, recorder, list, length);
+    wormweekly_budget_out budget = { 0, 0, 0, 0 };
+    wormweekly_budget((wormweekly_instrument *)instrument, (wormweekly_recorder *)recorder, &budget);
+    return (handed){ done.answer, done.made, budget.left };
 }
 */
 import "C"
@@ -78,6 +109,12 @@ type prepared struct {
 }
 
 var _ [unsafe.Sizeof(C.wormweekly_prepared{})]byte = [unsafe.Sizeof(prepared{})]byte{}
+
+// How a point is made of recordings; else a histogram.
+const (
+	aggregatedSum  = 0
+	aggregatedLast = 1
+)
 
 type texts struct {
 	catalogue, config, certificate string
@@ -278,13 +315,19 @@ func recordList(own *handles, instrument, recorder int, list []prepared) (uint32
 	return uint32(done.answer), int(done.made)
 }
 
+// Makes the first recordings of a list, and tells how many of them were made, and how many are left.
+func handOver(own *handles, instrument, recorder int, list []prepared, length int) (answer uint32, made int, left uint64) {
+	done := C.hand_over(own.instrumentBytes(instrument), own.recorderBytes(recorder),
+		(*C.wormweekly_prepared)(unsafe.Pointer(&list[0])), C.size_t(length))
+	return uint32(done.answer), int(done.made), uint64(done.left)
+}
+
 func prepare(own *handles, instrument, recorder int, attributes []Attr) (setKey, uint32) {
 	made := own.give(recorder, attributes)
-	defer made.free()
-	var out C.wormweekly_prepared
-	answer := C.wormweekly_prepare(own.recorder(recorder), C.uint32_t(instrument), made.texts, C.size_t(made.length),
-		made.attributes, C.size_t(made.count), &out)
-	return (*prepared)(unsafe.Pointer(&out)).set, uint32(answer)
+	out := C.prepare_given(own.recorderBytes(recorder), C.uint32_t(instrument), made.texts, C.size_t(made.length),
+		made.attributes, C.size_t(made.count))
+	made.free()
+	return setKey{uint64(out.low), uint64(out.high)}, uint32(out.answer)
 }
 
 // What a recording is refused for, of what it says, "" where that is in order. Needs the recorder alone.
@@ -399,13 +442,26 @@ func nameByReader(own *handles, kind, number int) string {
 	return text
 }
 
-// The greatest value of an instrument, that of all numbers where nobody records.
-func greatest(own *handles, instrument int) int64 {
-	out := C.wormweekly_range_out{greatest: math.MaxInt64}
+// The range of an instrument, that of all numbers where nobody records.
+func rangeOf(own *handles, instrument int) (least, greatest int64) {
+	out := C.wormweekly_range_out{least: math.MinInt64, greatest: math.MaxInt64}
 	if own.counts.recorders > 0 {
 		C.wormweekly_range(own.recorder(0), C.uint32_t(instrument), &out)
 	}
-	return int64(out.greatest)
+	return int64(out.least), int64(out.greatest)
+}
+
+// How the streams of each instrument are made of recordings.
+func aggregations(own *handles) [][]int {
+	made := make([][]int, own.counts.instruments)
+	var out C.wormweekly_plan_stream_out
+	for number := C.size_t(0); own.counts.recorders > 0; number++ {
+		if C.wormweekly_plan_stream(own.recorder(0), number, &out) != answerDone {
+			break
+		}
+		made[out.instrument] = append(made[out.instrument], int(out.aggregation))
+	}
+	return made
 }
 
 func warnings(own *handles) string {
@@ -526,9 +582,9 @@ func pointOf(reader *C.wormweekly_reader, stream, number C.size_t, aggregation i
 		made.Attributes = append(made.Attributes, attribute)
 	}
 	switch aggregation {
-	case 0:
+	case aggregatedSum:
 		made.Value = Sum(out.value)
-	case 1:
+	case aggregatedLast:
 		made.Value = Last(out.value)
 	default:
 		made.Value = Buckets{Count: uint64(out.count), Counts: counts[:out.buckets], HasSum: out.has_value == 1,

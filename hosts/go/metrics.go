@@ -4,6 +4,7 @@ import (
 	"errors"
 	"fmt"
 	"math"
+	"math/bits"
 	"strings"
 	"sync"
 	"sync/atomic"
@@ -31,6 +32,7 @@ type run struct {
 	instruments []*Instrument
 	recorders   []*Recorder
 	readers     []*Reader
+	mask        uint32 // of a hint: less than twice as many as there are recorders
 }
 
 // An Option says more of how a run is opened.
@@ -85,17 +87,20 @@ func Lint(catalogue, config string) ([]string, error) {
 
 func newMetrics(own *run, warnings string) *Metrics {
 	handles := own.handles
-	for number := 0; number < int(handles.counts.instruments); number++ {
+	for number, aggregations := range aggregations(handles) {
 		own.instruments = append(own.instruments, &Instrument{run: own, number: number,
 			name: name(handles, instrumentName, number), meter: name(handles, meterName, number),
-			greatest: greatest(handles, number)})
+			keeping: keepingOf(handles, number, aggregations)})
 	}
 	for number := 0; number < int(handles.counts.recorders); number++ {
 		own.recorders = append(own.recorders, &Recorder{run: own, number: number, name: name(handles, recorderName, number),
-			kept: make([]uint64, len(own.instruments))})
+			underWay: make([]uint64, len(own.instruments)), kept: make([]*kept, len(own.instruments))})
 	}
 	for number := 0; number < int(handles.counts.readers); number++ {
 		own.readers = append(own.readers, &Reader{run: own, number: number, name: name(handles, readerName, number)})
+	}
+	if count := len(own.recorders); count > 0 {
+		own.mask = 1<<bits.Len(uint(count-1)) - 1
 	}
 	return &Metrics{Instruments: copied(own.instruments), Recorders: copied(own.recorders), Readers: copied(own.readers),
 		Warnings: warnings, run: own}
@@ -137,7 +142,8 @@ func (metrics *Metrics) Settle() ([]Total, error) {
 	own := metrics.run
 	own.stop()
 	defer own.goOn()
-	return own.settle()
+	totals, _, err := own.settle()
+	return totals, err
 }
 
 // Close ends the recordings of all instruments. They are collected and settled as before.
@@ -203,17 +209,21 @@ func (metrics *Metrics) RollOver(start time.Time) (*Ended, error) {
 	if err != nil {
 		return nil, err
 	}
-	before, totals, err := own.change(next)
+	before, totals, joined, err := own.change(next)
 	if err != nil {
 		next.free()
 		return nil, err
 	}
-	ended := &run{handles: before}
-	ended.tell.Store(own.tell.Load())
 	for number := range own.instruments {
 		closeInstrument(before, number) // one that is closed stays closed
 	}
-	return &Ended{newMetrics(ended, metrics.Warnings), totals}, nil
+	gone := &run{handles: before}
+	gone.tell.Store(own.tell.Load())
+	ended := newMetrics(gone, metrics.Warnings)
+	for number, instrument := range gone.instruments {
+		instrument.isClosed, instrument.joined = true, joined[number]
+	}
+	return &Ended{ended, totals}, nil
 }
 
 // Opens the next run, by the first recorder.
@@ -228,23 +238,24 @@ func (own *run) next(start time.Time) (*handles, error) {
 }
 
 // Where all of the run is settled, it gives place to the next one.
-func (own *run) change(next *handles) (before *handles, totals []Total, err error) {
+func (own *run) change(next *handles) (before *handles, totals []Total, joined []uint64, err error) {
 	own.stop()
 	defer own.goOn()
-	if totals, err = own.settle(); err != nil {
-		return nil, nil, err
+	if totals, joined, err = own.settle(); err != nil {
+		return nil, nil, nil, err
 	}
 	before, own.handles = own.handles, next
 	own.number++
 	for _, instrument := range own.instruments {
 		instrument.spent.Store(0)
+		instrument.isClosed = false
 	}
 	for _, recorder := range own.recorders {
-		for at := range recorder.kept {
-			recorder.kept[at] = 0
+		for at := range own.instruments {
+			recorder.underWay[at], recorder.kept[at] = 0, nil
 		}
 	}
-	return before, totals, nil
+	return before, totals, joined, nil
 }
 
 // Waits for all recorders and instruments, and keeps them.
@@ -266,37 +277,49 @@ func (own *run) goOn() {
 	}
 }
 
-func (own *run) settle() ([]Total, error) {
-	totals := make([]Total, len(own.instruments))
+// Makes what is kept, and settles. Of each instrument, with its total, how many recordings were added to others before.
+func (own *run) settle() (totals []Total, joined []uint64, err error) {
 	for number, instrument := range own.instruments {
+		added, answer := instrument.makesAllHeld()
+		if answer != answerDone {
+			return nil, nil, errorOn(instrument, answer)
+		}
 		total, answer := settle(own.handles, number)
 		if answer != answerDone {
-			return nil, errorOn(instrument, answer)
+			return nil, nil, errorOn(instrument, answer)
 		}
-		totals[number] = total
+		total.Count += added
+		totals, joined = append(totals, total), append(joined, added)
 	}
-	return totals, nil
+	return totals, joined, nil
 }
 
 // An Instrument is recorded on by any goroutine.
+//
+// Recordings are kept in memory of Go, and made many at a time: before a collection, a settlement, a budget that is asked for and
+// a roll-over, and when a recorder has 64. Each is reserved of a budget, so that each is made. Of a gauge nothing is kept.
 //
 // A recording takes a recorder that no other goroutine is using. One whose budget is spent hands on to the next, and the last
 // one asks the spare budget; only then is a recording refused. What is refused, for whatever reason, changes nothing but what
 // Refused answers, and is told once for each reason to what Metrics.OnRefusal was given. Calls that begin with Try answer the
 // error too.
 type Instrument struct {
-	run    *run
-	mutex  sync.Mutex
-	number int
-	name   string
-	meter  string
-	// the greatest value of its range, and how many durations were above it
-	greatest int64
+	run      *run
+	number   int
+	keeping  keeping
+	isClosed bool   // changed while all recorders are held
+	joined   uint64 // of a run that ended, how many recordings were added to others
+	name     string
+	meter    string
+	// what is written often is not in lines of cache of what is only read
+	_     [64]byte
+	mutex sync.Mutex
+	// the recorders that had no budget left, a bit for each; changed while the instrument is held
+	spent atomic.Uint64
+	// how many durations were above its range, and how many values were replaced
 	clamped  atomic.Uint64
 	replaced atomic.Uint64
-	// the recorders that had no budget left, a bit for each; changed while the instrument is held
-	spent   atomic.Uint64
-	refused refusals
+	refused  refusals
 }
 
 // Name is the name.
@@ -312,10 +335,13 @@ func (instrument *Instrument) Number() int { return instrument.number }
 // declare a wider range.
 func (instrument *Instrument) Clamped() uint64 { return instrument.clamped.Load() }
 
-// A Bound set of attributes was looked up once, for recordings on an instrument.
+// A Bound set of attributes was looked up once, for recordings on an instrument. Where all streams of that are sums, recordings of
+// one set are added up in memory of Go as long as the sum is in the range, and make one recording, which takes one of the budget:
+// declare a range for sums. Total.Count has each of them.
 type Bound struct {
 	instrument *Instrument
 	set        setKey
+	cell       *cell // of what is added up
 }
 
 // Bind looks up a set of attributes, for recordings by Bound.Add or by Recorder.Add. With an error comes a Bound that records nothing.
@@ -330,7 +356,7 @@ func (instrument *Instrument) Bind(attributes ...Attr) (Bound, error) {
 	if answer != answerDone {
 		return Bound{}, errorSaid(instrument, answer, recorder.number, attributes, 0)
 	}
-	return Bound{instrument, set}, nil
+	return Bound{instrument, set, new(cell)}, nil
 }
 
 // KnownOr answers the attribute, where the instrument declares its value for its key; else the key with the other value, and
@@ -388,9 +414,14 @@ func (instrument *Instrument) Spare() (Spare, error) {
 
 // Close ends the recordings. The instrument is collected and settled as before.
 func (instrument *Instrument) Close() error {
-	instrument.mutex.Lock()
-	defer instrument.mutex.Unlock()
-	return errorOn(instrument, closeInstrument(instrument.run.handles, instrument.number))
+	own := instrument.run
+	own.stop()
+	defer own.goOn()
+	if _, answer := instrument.makesAllHeld(); answer != answerDone {
+		return errorOn(instrument, answer)
+	}
+	instrument.isClosed = true
+	return errorOn(instrument, closeInstrument(own.handles, instrument.number))
 }
 
 // A Reader is the seat of a reader. Goroutines may share it: one waits for the other.
@@ -476,6 +507,9 @@ func (reader *Reader) collect(instrument *Instrument, now time.Time) error {
 	}
 	if instrument.run != reader.run {
 		return errorOn(instrument, answerStranger)
+	}
+	if answer := instrument.makesAll(); answer != answerDone {
+		return errorOn(instrument, answer)
 	}
 	instrument.mutex.Lock()
 	defer instrument.mutex.Unlock()

@@ -16,8 +16,11 @@ type Recorder struct {
 	list   []prepared
 	// whether a call of its own has it, and not its run or an instrument
 	isUsed atomic.Bool
-	// of each instrument, how many recordings count out what is under way
-	kept []uint64
+	// of each instrument, how many recordings count out what is under way, and what is still to be made
+	underWay []uint64
+	kept     []*kept
+	// so that no two share lines of cache
+	_ [64]byte
 }
 
 // Name is the name.
@@ -31,9 +34,7 @@ func (recorder *Recorder) Record(on *Instrument, value int64, attributes ...Attr
 	if err := recorder.begin(on); err != nil {
 		return err
 	}
-	on.mutex.Lock()
-	answer := record(recorder.run.handles, on.number, recorder.number, attributes, value)
-	on.mutex.Unlock()
+	answer := on.made(recorder, &recording{attributes: attributes, value: value})
 	if answer == answerDone {
 		recorder.end()
 		return nil
@@ -48,9 +49,7 @@ func (recorder *Recorder) Add(bound Bound, value int64) error {
 	if err := recorder.begin(on); err != nil {
 		return err
 	}
-	on.mutex.Lock()
-	answer := recordSet(recorder.run.handles, on.number, recorder.number, bound.set, value)
-	on.mutex.Unlock()
+	answer := on.made(recorder, &recording{set: bound.set, isSet: true, value: value})
 	recorder.end()
 	if answer == answerDone {
 		return nil
@@ -69,10 +68,10 @@ func (recorder *Recorder) AddDuration(bound Bound, took, unit time.Duration) err
 		return errorOf(answerUnknownInstrument)
 	}
 	whole := int64(took / unit)
-	if whole <= on.greatest {
+	if whole <= on.keeping.greatest {
 		return recorder.Add(bound, whole)
 	}
-	if err := recorder.Add(bound, on.greatest); err != nil {
+	if err := recorder.Add(bound, on.keeping.greatest); err != nil {
 		return err
 	}
 	on.clamped.Add(1)
@@ -102,9 +101,7 @@ func (recorder *Recorder) AddAll(items []Item) error {
 		}
 		recorder.list = append(recorder.list, prepared{item.Bound.set, item.Value})
 	}
-	on.mutex.Lock()
-	answer, made := recordList(recorder.run.handles, on.number, recorder.number, recorder.list)
-	on.mutex.Unlock()
+	answer, made := on.madeList(recorder, recorder.list)
 	if answer == answerDone && made < len(items) {
 		answer = answerUnknownInstrument
 	}
@@ -164,6 +161,9 @@ func (recorder *Recorder) between(on *Instrument, call func() uint32) error {
 	defer recorder.mutex.Unlock()
 	on.mutex.Lock()
 	defer on.mutex.Unlock()
+	if answer := recorder.makes(on); answer != answerDone {
+		return errorOn(on, answer)
+	}
 	return errorOn(on, call())
 }
 

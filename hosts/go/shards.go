@@ -6,19 +6,22 @@ import (
 )
 
 // A hint is where a processor begins to look for a recorder.
-type hint struct{ number uint64 }
+type hint struct{ number uint32 }
 
-var nextHint atomic.Uint64
+var nextHint atomic.Uint32
 
 // Pools keep what they lend by processor.
 var hints = sync.Pool{New: func() any { return &hint{nextHint.Add(1)} }}
 
-// Where to begin among so many.
-func hintOf(count int) int {
-	own := hints.Get().(*hint)
-	first := int(own.number % uint64(count))
-	hints.Put(own)
-	return first
+// The recorder where to begin.
+func (own *run) first() int {
+	lent := hints.Get().(*hint)
+	at := int(lent.number & own.mask)
+	hints.Put(lent)
+	if at >= len(own.recorders) {
+		at -= len(own.recorders)
+	}
+	return at
 }
 
 // A recording that any recorder may make: of attributes, or of a set that was looked up. What is counted in gets the recorder
@@ -66,6 +69,9 @@ func (instrument *Instrument) made(recorder *Recorder, what *recording) uint32 {
 
 // The same while the instrument is held, too.
 func (instrument *Instrument) madeHeld(recorder *Recorder, what *recording) uint32 {
+	if answer := recorder.makes(instrument); answer != answerDone {
+		return answer
+	}
 	if what.isCountedIn && !instrument.hasRoom(recorder) {
 		return answerBudget
 	}
@@ -74,10 +80,20 @@ func (instrument *Instrument) madeHeld(recorder *Recorder, what *recording) uint
 	case answer == answerBudget:
 		instrument.spent.Store(instrument.spent.Load() | bit(recorder.number))
 	case answer == answerDone && what.isCountedIn:
-		recorder.kept[instrument.number]++
+		recorder.underWay[instrument.number]++
 		what.recorder, what.run = recorder.number, instrument.run.number
 	}
 	return answer
+}
+
+// Makes the recordings of a list by a recorder that is held.
+func (instrument *Instrument) madeList(recorder *Recorder, list []prepared) (answer uint32, made int) {
+	instrument.mutex.Lock()
+	defer instrument.mutex.Unlock()
+	if answer := recorder.makes(instrument); answer != answerDone {
+		return answer, 0
+	}
+	return recordList(instrument.run.handles, instrument.number, recorder.number, list)
 }
 
 func (instrument *Instrument) recorded(recorder *Recorder, what *recording) uint32 {
@@ -91,7 +107,7 @@ func (instrument *Instrument) recorded(recorder *Recorder, what *recording) uint
 // Whether a recording is left to count out what is counted in now, beside those for what is under way.
 func (instrument *Instrument) hasRoom(recorder *Recorder) bool {
 	left, answer := budget(instrument.run.handles, instrument.number, recorder.number)
-	return answer == answerDone && left.Left >= recorder.kept[instrument.number]+2
+	return answer == answerDone && left.Left >= recorder.underWay[instrument.number]+2
 }
 
 // Counts out what was counted in by a recorder, which is held. In another run there is nothing to count out.
@@ -99,13 +115,13 @@ func (instrument *Instrument) countOut(recorder *Recorder, what *recording) uint
 	if what.run != instrument.run.number {
 		return answerDone
 	}
-	recorder.kept[instrument.number]--
+	recorder.underWay[instrument.number]--
 	return instrument.made(recorder, &recording{set: what.set, isSet: true, value: -1})
 }
 
 // Takes any recorder, to ask it what all would answer. There has to be one.
 func (own *run) take() *Recorder {
-	first := hintOf(len(own.recorders))
+	first := own.first()
 	for step := range own.recorders {
 		recorder := own.recorders[(first+step)%len(own.recorders)]
 		if recorder.mutex.TryLock() {
@@ -116,13 +132,16 @@ func (own *run) take() *Recorder {
 	return own.recorders[first]
 }
 
-// Makes a recording with a recorder that is free and has budget left. Where all with budget are busy, it waits for one of them,
-// which takes as long as one recording; where none has budget left, one asks the spare budget.
-func (instrument *Instrument) share(what *recording) uint32 {
+// Makes a recording, or keeps it, that of a bound set in its cell: with a recorder that is free and has budget left. Where all with budget are busy, it waits for
+// one of them, which takes as long as one recording; where none has budget left, one asks the spare budget.
+func (instrument *Instrument) share(what *recording, in *cell) uint32 {
 	if len(instrument.run.recorders) == 0 {
 		return answerUnknownRecorder
 	}
-	first := hintOf(len(instrument.run.recorders))
+	if answer, isDone := instrument.keep(what, in); isDone {
+		return answer
+	}
+	first := instrument.run.first()
 	for {
 		answer := instrument.byRecorders(first, what, false)
 		if answer == answerBudget {

@@ -71,7 +71,7 @@ func (instrument *Instrument) said(answer uint32, what *recording) error {
 // Add adds to a counter or an up-down counter.
 func (instrument *Instrument) Add(value int64, attributes ...Attr) {
 	what := recording{attributes: attributes, value: value}
-	instrument.settled(instrument.share(&what), &what)
+	instrument.settled(instrument.share(&what, nil), &what)
 }
 
 // Record records a value of a histogram or a gauge.
@@ -82,7 +82,7 @@ func (instrument *Instrument) Record(value int64, attributes ...Attr) {
 // TryAdd makes a recording on an instrument of any kind. The error is counted and told as those of Add.
 func (instrument *Instrument) TryAdd(value int64, attributes ...Attr) error {
 	what := recording{attributes: attributes, value: value}
-	answer := instrument.share(&what)
+	answer := instrument.share(&what, nil)
 	if answer == answerDone {
 		return nil
 	}
@@ -93,20 +93,20 @@ func (instrument *Instrument) TryAdd(value int64, attributes ...Attr) error {
 // AddDuration records how long something took, in whole units, as time.Millisecond. What is above the range is recorded as its
 // greatest value, and Clamped counts it.
 func (instrument *Instrument) AddDuration(took, unit time.Duration, attributes ...Attr) {
-	instrument.addDuration(took, unit, &recording{attributes: attributes})
+	instrument.addDuration(took, unit, &recording{attributes: attributes}, nil)
 }
 
-func (instrument *Instrument) addDuration(took, unit time.Duration, what *recording) {
+func (instrument *Instrument) addDuration(took, unit time.Duration, what *recording, in *cell) {
 	if unit <= 0 {
 		instrument.count(ErrUnit, func() error { return ErrUnit })
 		return
 	}
 	what.value = int64(took / unit)
-	isAbove := what.value > instrument.greatest
+	isAbove := what.value > instrument.keeping.greatest
 	if isAbove {
-		what.value = instrument.greatest
+		what.value = instrument.keeping.greatest
 	}
-	answer := instrument.share(what)
+	answer := instrument.share(what, in)
 	instrument.settled(answer, what)
 	if isAbove && answer == answerDone {
 		instrument.clamped.Add(1)
@@ -133,11 +133,11 @@ func (bound Bound) Instrument() *Instrument { return bound.instrument }
 
 // Add adds to a counter or an up-down counter. The zero Bound records nothing.
 func (bound Bound) Add(value int64) {
-	if bound.instrument == nil {
+	if bound.instrument == nil || bound.isAdded(value) {
 		return
 	}
 	what := recording{set: bound.set, isSet: true, value: value}
-	bound.instrument.settled(bound.instrument.share(&what), &what)
+	bound.instrument.settled(bound.instrument.share(&what, bound.cell), &what)
 }
 
 // Record records a value of a histogram or a gauge.
@@ -148,8 +148,11 @@ func (bound Bound) TryAdd(value int64) error {
 	if bound.instrument == nil {
 		return errorOf(answerUnknownInstrument)
 	}
+	if bound.isAdded(value) {
+		return nil
+	}
 	what := recording{set: bound.set, isSet: true, value: value}
-	answer := bound.instrument.share(&what)
+	answer := bound.instrument.share(&what, bound.cell)
 	if answer == answerDone {
 		return nil
 	}
@@ -160,7 +163,7 @@ func (bound Bound) TryAdd(value int64) error {
 // AddDuration records a duration as Instrument.AddDuration does.
 func (bound Bound) AddDuration(took, unit time.Duration) {
 	if bound.instrument != nil {
-		bound.instrument.addDuration(took, unit, &recording{set: bound.set, isSet: true})
+		bound.instrument.addDuration(took, unit, &recording{set: bound.set, isSet: true}, bound.cell)
 	}
 }
 
@@ -171,7 +174,7 @@ func (bound Bound) InFlight() (out func()) {
 		return func() {}
 	}
 	what := recording{set: bound.set, isSet: true, value: 1, isCountedIn: true}
-	if answer := on.share(&what); answer != answerDone {
+	if answer := on.share(&what, nil); answer != answerDone {
 		on.settled(answer, &what)
 		return func() {}
 	}
@@ -187,7 +190,7 @@ func (instrument *Instrument) countOutShared(what *recording) {
 	recorder.mutex.Unlock()
 	out := recording{set: what.set, isSet: true, value: -1}
 	if answer == answerBudget {
-		answer = instrument.share(&out)
+		answer = instrument.share(&out, nil)
 	}
 	instrument.settled(answer, &out)
 }

@@ -226,7 +226,7 @@ func TestRunsGoOverUnderTraffic(t *testing.T) {
 }
 
 // What the points of the first stream of a batch add up to.
-func sumOf(batch Batch) (sum uint64) {
+func summed(batch Batch) (sum uint64) {
 	for _, point := range batch.Streams[0].Points {
 		sum += uint64(point.Value.(Sum))
 	}
@@ -253,9 +253,9 @@ func TestEachRecordingIsCollectedOnce(t *testing.T) {
 	// All that cumulative and delta readers collect. The first ones give it all again, so they are asked at the end alone.
 	var all, new, runs uint64
 	collect := func(metrics *Metrics, isEnded bool) {
-		new += sumOf(must(metrics.Readers[1].Collect(metrics.Instruments[0], time.Now()))(t))
+		new += summed(must(metrics.Readers[1].Collect(metrics.Instruments[0], time.Now()))(t))
 		if isEnded {
-			all += sumOf(must(metrics.Readers[0].Collect(metrics.Instruments[0], time.Now()))(t))
+			all += summed(must(metrics.Readers[0].Collect(metrics.Instruments[0], time.Now()))(t))
 		}
 	}
 	for ; atomic.LoadInt32(&working) > 0; runs++ {
@@ -291,7 +291,7 @@ func TestARunThatHasEnded(t *testing.T) {
 	equal(t, must(metrics.PartLeft())(t), 200_004.0/200_005)
 	ended := must(metrics.RollOver(at(5)))(t)
 	equal(t, must(ended.Settle())(t), ended.Totals)
-	equal(t, sumOf(must(ended.Readers[0].Collect(ended.Instruments[0], at(6)))(t)), uint64(3))
+	equal(t, summed(must(ended.Readers[0].Collect(ended.Instruments[0], at(6)))(t)), uint64(3))
 	if err := ended.Instruments[0].TryAdd(1, home...); !errors.Is(err, ErrClosed) {
 		t.Error(err)
 	}
@@ -333,7 +333,7 @@ func TestARecordingTakesNoMemoryOfGo(t *testing.T) {
 	_, _, second, requests := opened(t)
 	bound := must(requests.Bind(home...))(t)
 	for name, call := range map[string]func(){
-		"Add": func() { requests.Add(1, home...) }, "Bound.Add": func() { bound.Add(1) },
+		"Add": func() { requests.Add(1, String("route", "/"), Int("status", 200)) }, "Bound.Add": func() { bound.Add(1) },
 		"Recorder.Add": func() { _ = second.Add(bound, 1) },
 	} {
 		if made := testing.AllocsPerRun(1000, call); made >= 1 {

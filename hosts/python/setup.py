@@ -1,6 +1,6 @@
-"""Builds the package over the static library `libwormweekly.a`: in the folder that WORMWEEKLY_LIB names, else in `lib` beside
-this folder (a copied distribution), else in `../out` (the repository, after `tools/hosts`). One build serves each Python
-from 3.10 on."""
+"""Builds the package over the static library `libwormweekly.a`: in the folder that WORMWEEKLY_LIB names, with `../include` beside
+it, else in `lib` beside this folder (a copied distribution), else in `../out` (the repository, after `tools/hosts`). One build
+serves each Python from 3.10 on."""
 
 import os
 from pathlib import Path
@@ -23,7 +23,8 @@ def found(name: str, folders: list[Path]) -> Path:
 
 named = os.environ.get("WORMWEEKLY_LIB")
 archive = found(ARCHIVE, [Path(named)] if named else [HERE.parent / "lib", HERE.parent / "out"])
-header = found(HEADER, [HERE.parent / "include", HERE.parent / "c"])
+beside = [Path(named).resolve().parent] if named else []
+header = found(HEADER, [folder / "include" for folder in (*beside, HERE.parent)] + [HERE.parent / "c"])
 
 setup(
     ext_modules=[

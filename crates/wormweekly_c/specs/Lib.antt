@@ -21,6 +21,7 @@ pub mod Pages
 pub mod Exposed
 pub mod Walking
 pub mod Ranges
+pub mod PlanStreams
 pub mod Settlements
 pub mod Closing
 pub mod Granting

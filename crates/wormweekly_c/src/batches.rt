@@ -178,7 +178,7 @@ fn written_stream(points: &StreamPoints, stream: &Stream) -> StreamOut
     }
 }
 
-fn kind_number(kind: Kind) -> u64
+pub(crate) fn kind_number(kind: Kind) -> u64
     ensures { result ≡ kind_number kind }
 {
     match kind {
@@ -189,7 +189,7 @@ fn kind_number(kind: Kind) -> u64
     }
 }
 
-fn aggregation_number(aggregation: &StreamAggregation) -> u64
+pub(crate) fn aggregation_number(aggregation: &StreamAggregation) -> u64
     ensures { result ≡ aggregation_number aggregation.now }
 {
     match aggregation {
@@ -199,7 +199,7 @@ fn aggregation_number(aggregation: &StreamAggregation) -> u64
     }
 }
 
-fn delta_number(temporality: Temporality) -> u64
+pub(crate) fn delta_number(temporality: Temporality) -> u64
     ensures { result ≡ delta_number temporality }
 {
     match temporality {

@@ -1,16 +1,19 @@
 //go:build peers
 
-// Package bench compares a recording with three attributes to that of OpenTelemetry's SDK, in one run. `tools/bindings
-// --bench` runs it where that one is installed (golang-opentelemetry-otel-dev).
+// Package bench compares a recording with three attributes to those of OpenTelemetry's SDK and of Prometheus' client, in one run.
+// `tools/bindings --bench` runs it where these are installed (golang-opentelemetry-otel-dev,
+// golang-github-prometheus-client-golang-dev).
 package bench
 
 import (
 	"context"
 	"fmt"
 	"strings"
+	"sync"
 	"sync/atomic"
 	"testing"
 
+	"github.com/prometheus/client_golang/prometheus"
 	"go.opentelemetry.io/otel/attribute"
 	"go.opentelemetry.io/otel/metric"
 	export "go.opentelemetry.io/otel/sdk/export/metric"
@@ -38,18 +41,23 @@ const instrument = `format = 1
 name = 'measured'
 [[meter.instrument]]
 name = 'requests'
-kind = 'counter'
-range = [0, 100]
+%s
 key = [{ name = 'route', values = %s }, { name = 'method', values = %s }, { name = 'region', values = %s }]
 `
+
+const (
+	summed    = "kind = 'counter'\nrange = [0, 100]"
+	ones      = "kind = 'counter'\nrange = [1, 1]"
+	histogram = "kind = 'histogram'\nrange = [0, 100]\nboundaries = [1, 10]"
+)
 
 const worker = `[[recorder]]
 name = 'worker %d'
 budget = [{ instrument = 0, amount = 1000000000000 }]
 `
 
-func catalogue() string {
-	text := fmt.Sprintf(instrument, listed(routes), listed(methods), listed(regions))
+func catalogue(kind string) string {
+	text := fmt.Sprintf(instrument, kind, listed(routes), listed(methods), listed(regions))
 	for number := 0; number < goroutines; number++ {
 		text += fmt.Sprintf(worker, number)
 	}
@@ -58,8 +66,8 @@ func catalogue() string {
 
 const config = "format = 1\n[[reader]]\nname = 'all'\n"
 
-func opened(b *testing.B) (*wormweekly.Metrics, *wormweekly.Instrument) {
-	metrics, err := wormweekly.Open(catalogue(), config)
+func opened(b *testing.B, kind string) (*wormweekly.Metrics, *wormweekly.Instrument) {
+	metrics, err := wormweekly.Open(catalogue(kind), config)
 	if err != nil {
 		b.Fatal(err)
 	}
@@ -80,60 +88,76 @@ func bound(b *testing.B, requests *wormweekly.Instrument) []wormweekly.Item {
 	return items
 }
 
-func recordAt(recorder *wormweekly.Recorder, requests *wormweekly.Instrument, at int) error {
-	return recorder.Record(requests, 1, wormweekly.String("route", routes[at%4]),
-		wormweekly.String("method", methods[at/4%2]), wormweekly.String("region", regions[at/8%2]))
-}
-
-// Runs a recording in one goroutine, and in four with a recorder each.
-func each(b *testing.B, make func(*testing.B) (*wormweekly.Metrics, func(*wormweekly.Recorder, int) error)) {
+// Runs a recording in one goroutine, and in four.
+func each(b *testing.B, make func(*testing.B) func(goroutine, at int)) {
 	b.Run("one", func(b *testing.B) {
-		metrics, record := make(b)
+		record := make(b)
 		b.ResetTimer()
 		for at := 0; at < b.N; at++ {
-			if err := record(metrics.Recorders[0], at); err != nil {
-				b.Fatal(err)
-			}
+			record(0, at)
 		}
 	})
 	b.Run("four", func(b *testing.B) {
-		metrics, record := make(b)
+		record := make(b)
 		var next int32 = -1
 		b.ResetTimer()
 		b.RunParallel(func(loop *testing.PB) {
-			recorder := metrics.Recorders[atomic.AddInt32(&next, 1)]
+			goroutine := int(atomic.AddInt32(&next, 1))
 			for at := 0; loop.Next(); at++ {
-				if err := record(recorder, at); err != nil {
-					b.Error(err)
-				}
+				record(goroutine, at)
 			}
 		})
 	})
 }
 
 func BenchmarkWormweeklyAtTheCall(b *testing.B) {
-	each(b, func(b *testing.B) (*wormweekly.Metrics, func(*wormweekly.Recorder, int) error) {
-		metrics, requests := opened(b)
-		return metrics, func(recorder *wormweekly.Recorder, at int) error { return recordAt(recorder, requests, at) }
+	each(b, func(b *testing.B) func(int, int) {
+		_, requests := opened(b, summed)
+		return func(_, at int) {
+			requests.Add(1, wormweekly.String("route", routes[at%4]), wormweekly.String("method", methods[at/4%2]),
+				wormweekly.String("region", regions[at/8%2]))
+		}
 	})
 }
 
-func BenchmarkWormweeklyBound(b *testing.B) {
-	each(b, func(b *testing.B) (*wormweekly.Metrics, func(*wormweekly.Recorder, int) error) {
-		metrics, requests := opened(b)
+func benchmarkBound(b *testing.B, kind string) {
+	each(b, func(b *testing.B) func(int, int) {
+		_, requests := opened(b, kind)
 		items := bound(b, requests)
-		return metrics, func(recorder *wormweekly.Recorder, at int) error {
-			return recorder.Add(items[at%atOnce].Bound, 1)
+		return func(_, at int) { items[at%atOnce].Bound.Add(1) }
+	})
+}
+
+// A sum of two values is in the range, and they are added up.
+func BenchmarkWormweeklyBound(b *testing.B) { benchmarkBound(b, summed) }
+
+// It is not, and each is a recording of the library.
+func BenchmarkWormweeklyBoundOnes(b *testing.B) { benchmarkBound(b, ones) }
+
+func BenchmarkWormweeklyBoundHistogram(b *testing.B) { benchmarkBound(b, histogram) }
+
+func BenchmarkWormweeklyByARecorder(b *testing.B) {
+	each(b, func(b *testing.B) func(int, int) {
+		metrics, requests := opened(b, summed)
+		items := bound(b, requests)
+		return func(goroutine, at int) {
+			if err := metrics.Recorders[goroutine].Add(items[at%atOnce].Bound, 1); err != nil {
+				b.Error(err)
+			}
 		}
 	})
 }
 
 // The time is that of sixteen recordings.
-func BenchmarkWormweeklySixteenBound(b *testing.B) {
-	each(b, func(b *testing.B) (*wormweekly.Metrics, func(*wormweekly.Recorder, int) error) {
-		metrics, requests := opened(b)
+func BenchmarkWormweeklySixteenByARecorder(b *testing.B) {
+	each(b, func(b *testing.B) func(int, int) {
+		metrics, requests := opened(b, summed)
 		items := bound(b, requests)
-		return metrics, func(recorder *wormweekly.Recorder, at int) error { return recorder.AddAll(items) }
+		return func(goroutine, at int) {
+			if err := metrics.Recorders[goroutine].AddAll(items); err != nil {
+				b.Error(err)
+			}
+		}
 	})
 }
 
@@ -153,29 +177,10 @@ func labels(at int) (route, method, region attribute.KeyValue) {
 		attribute.String("region", regions[at/8%2])
 }
 
-func eachPeer(b *testing.B, make func(*testing.B) func(int)) {
-	b.Run("one", func(b *testing.B) {
-		record := make(b)
-		b.ResetTimer()
-		for at := 0; at < b.N; at++ {
-			record(at)
-		}
-	})
-	b.Run("four", func(b *testing.B) {
-		record := make(b)
-		b.ResetTimer()
-		b.RunParallel(func(loop *testing.PB) {
-			for at := 0; loop.Next(); at++ {
-				record(at)
-			}
-		})
-	})
-}
-
 func BenchmarkOpenTelemetryAtTheCall(b *testing.B) {
-	eachPeer(b, func(b *testing.B) func(int) {
+	each(b, func(b *testing.B) func(int, int) {
 		requests, ctx := counter(b), context.Background()
-		return func(at int) {
+		return func(_, at int) {
 			route, method, region := labels(at)
 			requests.Add(ctx, 1, route, method, region)
 		}
@@ -183,13 +188,50 @@ func BenchmarkOpenTelemetryAtTheCall(b *testing.B) {
 }
 
 func BenchmarkOpenTelemetryBound(b *testing.B) {
-	eachPeer(b, func(b *testing.B) func(int) {
+	each(b, func(b *testing.B) func(int, int) {
 		requests, ctx := counter(b), context.Background()
 		var bound [atOnce]metric.BoundInt64Counter
 		for at := range bound {
 			route, method, region := labels(at)
 			bound[at] = requests.Bind(route, method, region)
 		}
-		return func(at int) { bound[at%atOnce].Add(ctx, 1) }
+		return func(_, at int) { bound[at%atOnce].Add(ctx, 1) }
+	})
+}
+
+func prometheusCounter(b *testing.B) *prometheus.CounterVec {
+	b.ReportAllocs()
+	return prometheus.NewCounterVec(prometheus.CounterOpts{Name: "requests"}, []string{"route", "method", "region"})
+}
+
+func BenchmarkPrometheusAtTheCall(b *testing.B) {
+	each(b, func(b *testing.B) func(int, int) {
+		requests := prometheusCounter(b)
+		return func(_, at int) {
+			requests.WithLabelValues(routes[at%4], methods[at/4%2], regions[at/8%2]).Inc()
+		}
+	})
+}
+
+func BenchmarkPrometheusBound(b *testing.B) {
+	each(b, func(b *testing.B) func(int, int) {
+		requests := prometheusCounter(b)
+		var bound [atOnce]prometheus.Counter
+		for at := range bound {
+			bound[at] = requests.WithLabelValues(routes[at%4], methods[at/4%2], regions[at/8%2])
+		}
+		return func(_, at int) { bound[at%atOnce].Inc() }
+	})
+}
+
+func BenchmarkAMutexAroundAMap(b *testing.B) {
+	each(b, func(b *testing.B) func(int, int) {
+		var mutex sync.Mutex
+		counts := map[[3]string]int64{}
+		return func(_, at int) {
+			mutex.Lock()
+			counts[[3]string{routes[at%4], methods[at/4%2], regions[at/8%2]}]++
+			mutex.Unlock()
+		}
 	})
 }

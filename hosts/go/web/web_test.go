@@ -50,7 +50,7 @@ func opened(t *testing.T) *wormweekly.Metrics {
 	return metrics
 }
 
-func served(t *testing.T, metrics *wormweekly.Metrics, handler http.HandlerFunc) string {
+func served(t *testing.T, metrics *wormweekly.Metrics, handler http.HandlerFunc) *httptest.Server {
 	t.Helper()
 	measured, err := Measure(handler, metrics)
 	if err != nil {
@@ -58,7 +58,7 @@ func served(t *testing.T, metrics *wormweekly.Metrics, handler http.HandlerFunc)
 	}
 	server := httptest.NewServer(measured)
 	t.Cleanup(server.Close)
-	return server.URL
+	return server
 }
 
 // What is counted, by its attributes.
@@ -89,7 +89,7 @@ func expect(t *testing.T, got, want any) {
 
 func TestWhatIsRecorded(t *testing.T) {
 	metrics := opened(t)
-	url := served(t, metrics, func(writer http.ResponseWriter, request *http.Request) {
+	server := served(t, metrics, func(writer http.ResponseWriter, request *http.Request) {
 		switch request.URL.Path {
 		case "/none":
 			http.NotFound(writer, request)
@@ -100,13 +100,14 @@ func TestWhatIsRecorded(t *testing.T) {
 		}
 	})
 	for _, path := range []string{"/", "/cart", "/cart", "/none", "/panic"} {
-		if answer, err := http.Get(url + path); err == nil {
+		if answer, err := http.Get(server.URL + path); err == nil {
 			answer.Body.Close()
 		}
 	}
-	if answer, err := http.Post(url, "", nil); err == nil {
+	if answer, err := http.Post(server.URL, "", nil); err == nil {
 		answer.Body.Close()
 	}
+	server.Close() // waits for what is counted after an answer
 	expect(t, seen(t, metrics, 0), map[string]int64{`[route="/" status=200]`: 2, `[route="/cart" status=200]`: 2,
 		`[route="other" status=404]`: 1, `[route="other" status="other"]`: 1})
 	expect(t, seen(t, metrics, 1), map[string]int64{`[method="GET"]`: 5, `[method="other"]`: 1})
@@ -123,7 +124,7 @@ func TestManyConnections(t *testing.T) {
 	metrics := opened(t)
 	var arrived sync.WaitGroup
 	arrived.Add(connections)
-	url := served(t, metrics, func(writer http.ResponseWriter, request *http.Request) {
+	server := served(t, metrics, func(writer http.ResponseWriter, request *http.Request) {
 		if request.URL.Path == "/cart" {
 			arrived.Done()
 			arrived.Wait()
@@ -136,7 +137,7 @@ func TestManyConnections(t *testing.T) {
 			defer clients.Done()
 			client := &http.Client{Transport: &http.Transport{}}
 			for round := 0; round < rounds; round++ {
-				answer, err := client.Get(url + []string{"/", "/cart"}[round/(rounds-1)])
+				answer, err := client.Get(server.URL + []string{"/", "/cart"}[round/(rounds-1)])
 				if err != nil {
 					t.Error(err)
 					return
@@ -178,7 +179,7 @@ func TestAThousandGoroutines(t *testing.T) {
 
 func TestAnAnswerIsAsTheServerGivesIt(t *testing.T) {
 	metrics := opened(t)
-	url := served(t, metrics, func(writer http.ResponseWriter, request *http.Request) {
+	server := served(t, metrics, func(writer http.ResponseWriter, request *http.Request) {
 		connection, buffer, err := writer.(http.Hijacker).Hijack()
 		if err != nil {
 			t.Error(err)
@@ -188,7 +189,7 @@ func TestAnAnswerIsAsTheServerGivesIt(t *testing.T) {
 		_, _ = buffer.WriteString("HTTP/1.1 200 OK\r\nContent-Length: 2\r\nConnection: close\r\n\r\nok")
 		_ = buffer.Flush()
 	})
-	answer, err := http.Get(url + "/")
+	answer, err := http.Get(server.URL + "/")
 	if err != nil {
 		t.Fatal(err)
 	}

@@ -186,7 +186,7 @@ static int read_dict(Run *run, PyObject *dict, Given *given) {
     return 1;
 }
 
-/* A mapping that is no dict is made one. */
+/* A mapping that is no dict is made one, by code of its own, which may fork. */
 int read_attributes(Run *run, PyObject *mapping, Given *given) {
     PyObject *dict;
     int is_read;
@@ -202,7 +202,7 @@ int read_attributes(Run *run, PyObject *mapping, Given *given) {
         return 0;
     }
     dict = PyDict_New();
-    is_read = dict != NULL && PyDict_Update(dict, mapping) == 0 && read_dict(run, dict, given);
+    is_read = dict != NULL && PyDict_Update(dict, mapping) == 0 && is_whole(run) && read_dict(run, dict, given);
     Py_XDECREF(dict);
     return is_read;
 }

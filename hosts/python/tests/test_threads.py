@@ -4,7 +4,7 @@ import os
 import sys
 import threading
 import unittest
-from collections.abc import Callable
+from collections.abc import Callable, Iterator, Mapping
 from concurrent.futures import ThreadPoolExecutor
 from typing import TypeVar
 
@@ -18,6 +18,22 @@ def elsewhere(call: Callable[[], T]) -> T:
     """What a call answers, or raises, in another thread."""
     with ThreadPoolExecutor(1) as other:
         return other.submit(call).result()
+
+
+class Forking(Mapping[str, str | int | bool]):
+    """Attributes, for which the process forks."""
+
+    child = 0
+
+    def __getitem__(self, key: str) -> str | int | bool:
+        return HOME[key]
+
+    def __iter__(self) -> Iterator[str]:
+        self.child = os.fork()
+        return iter(HOME)
+
+    def __len__(self) -> int:
+        return len(HOME)
 
 
 class Threads(unittest.TestCase):
@@ -65,6 +81,13 @@ class Threads(unittest.TestCase):
         with pool.lend(), pool.lend(), self.assertRaises(TimeoutError):
             elsewhere(work)
         self.assertEqual(self.metrics.settle()[0].count, 2)
+
+    def test_a_pool_lends_in_turn(self) -> None:
+        pool, lent = Pool(self.metrics.recorders), []
+        for _ in range(4):
+            with pool.lend() as recorder:
+                lent.append(recorder.number)
+        self.assertEqual(lent, [0, 1, 0, 1])
 
     def test_all_at_once(self) -> None:
         home = self.requests.bind(HOME)
@@ -159,6 +182,17 @@ class Threads(unittest.TestCase):
             except ThreadRefusal as refusal:
                 names.append(refusal.name)
         return names == ["Forked"] * len(calls) and own.settle()[0].count == 1
+
+    def test_attributes_that_fork(self) -> None:
+        given, name = Forking(), ""
+        try:
+            self.first.record(self.requests, given, 1)
+        except ThreadRefusal as refusal:
+            name = refusal.name
+        if given.child == 0:
+            os._exit(0 if name == "Forked" else 1)
+        self.assertEqual(os.waitstatus_to_exitcode(os.waitpid(given.child, 0)[1]), 0)
+        self.assertEqual((name, self.metrics.settle()[0].count), ("", 1))
 
     def test_a_child_is_refused(self) -> None:
         child = os.fork()

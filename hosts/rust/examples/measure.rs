@@ -9,7 +9,9 @@ use std::hint::black_box;
 use std::sync::Mutex;
 use std::thread;
 use std::time::Instant;
-use wormweekly::{Instrument, Opened, Prepared, Recorder, Value, open};
+use wormweekly::{
+    Bound, Instrument, Opened, Prepared, Recorder, Shared, SharedInstrument, Value, open,
+};
 
 const THREADS: usize = 4;
 const AT_ONCE: usize = 16;
@@ -31,9 +33,11 @@ const COLUMNS: [(&str, usize, bool); 3] = [
     ("4 threads, one each", THREADS, true),
 ];
 
-const ROWS: [&str; 5] = [
+const ROWS: [&str; 7] = [
     "three attributes at the call",
+    "three attributes at the call, by any thread",
     "prepared",
+    "bound, by any thread",
     "prepared, sixteen in one call, each",
     "a map of three owned texts",
     "a map of three borrowed texts",
@@ -46,9 +50,11 @@ fn main() -> Result<(), Box<dyn Error>> {
     let mut least = [[f64::INFINITY; COLUMNS.len()]; ROWS.len()];
     for _ in 0..numbers.get(1).copied().unwrap_or(RUNS) {
         for (column, (_, threads, own)) in COLUMNS.iter().enumerate() {
-            let library = through_the_library(*threads, *own, each)?;
-            let maps = through_maps(*threads, *own, each);
-            for (row, time) in library.into_iter().chain(maps).enumerate() {
+            let [call, prepared, listed] = through_the_library(*threads, *own, each)?;
+            let [any_call, any_bound] = by_any_thread(*threads, *own, each)?;
+            let [owned, borrowed] = through_maps(*threads, *own, each);
+            let times = [call, any_call, prepared, any_bound, listed, owned, borrowed];
+            for (row, time) in times.into_iter().enumerate() {
                 least[row][column] = least[row][column].min(time);
             }
         }
@@ -155,6 +161,39 @@ fn seats<'a>(
             })
         })
         .collect()
+}
+
+struct Any {
+    instrument: SharedInstrument,
+    bound: Vec<Bound>,
+}
+
+// What each thread records on, where the recorders are shards.
+fn any_of(shared: &Shared, threads: usize, own: bool) -> Result<Vec<Any>, Box<dyn Error>> {
+    let instruments = shared.instruments();
+    (0..threads)
+        .map(|number| {
+            let instrument = instruments[if own { number } else { 0 }].clone();
+            let bound: Result<Vec<_>, _> = (0..AT_ONCE)
+                .map(|at| instrument.bind(&attributes_at(at)))
+                .collect();
+            let bound = bound?;
+            Ok(Any { instrument, bound })
+        })
+        .collect()
+}
+
+fn by_any_thread(threads: usize, own: bool, each: usize) -> Result<[f64; 2], Box<dyn Error>> {
+    let (shared, _) = open(&catalogue(), CONFIG, 0)?.share();
+    let at_the_call = time_for(each, any_of(&shared, threads, own)?, |any, number| {
+        any.instrument.add(1, &attributes_at(number));
+    });
+    let bound = time_for(each, any_of(&shared, threads, own)?, |any, number| {
+        any.bound[number % AT_ONCE].add(1);
+    });
+    let count: u64 = shared.settle()?.iter().map(|total| total.count).sum();
+    assert_eq!(count, (each * 2 * threads) as u64);
+    Ok([at_the_call, bound])
 }
 
 fn through_the_library(threads: usize, own: bool, each: usize) -> Result<[f64; 3], Box<dyn Error>> {

@@ -110,6 +110,8 @@ pub struct Ended {
 /// All shards.
 pub(crate) struct Shards {
     all: Vec<Mutex<Shard>>,
+    // Of a hint: less than twice as many as there are shards.
+    mask: usize,
     // Of each instrument, the shards that had no budget left, a bit for each.
     spent: Vec<AtomicU64>,
 }
@@ -123,6 +125,7 @@ impl Shards {
             kept: vec![0; instruments],
         };
         Shards {
+            mask: recorders.len().next_power_of_two() - 1,
             all: recorders
                 .into_iter()
                 .map(|own| Mutex::new(shard(own)))
@@ -142,6 +145,25 @@ impl Shards {
         if self.all.is_empty() {
             return UNKNOWN_RECORDER;
         }
+        self.by_first(number, &mut make)
+            .unwrap_or_else(|| self.by_all(number, make))
+    }
+
+    // By this thread's own shard, where nobody uses it and it is not known to be spent.
+    fn by_first(
+        &self,
+        number: usize,
+        make: &mut impl FnMut(usize, &mut Shard) -> u32,
+    ) -> Option<u32> {
+        let at = self.first();
+        if self.spent_of(number) & bit(at) != 0 {
+            return None;
+        }
+        self.made(number, at, &mut *self.free(at)?, make)
+    }
+
+    #[cold]
+    fn by_all(&self, number: usize, mut make: impl FnMut(usize, &mut Shard) -> u32) -> u32 {
         let mut code = BUDGET;
         // Another thread may have been granted what was spare meanwhile, and has some of it left.
         for _ in 0..=self.all.len() {
@@ -200,7 +222,7 @@ impl Shards {
 
     // By this thread's own shard, which asks the spare budget for more.
     fn by_spare(&self, number: usize, make: &mut impl FnMut(usize, &mut Shard) -> u32) -> u32 {
-        let at = hint() % self.all.len();
+        let at = self.first();
         let mut shard = self.lock(at);
         // Before it asks: who finds nothing spare any more has to see who has it.
         self.spent[number].fetch_and(!bit(at), Ordering::SeqCst);
@@ -242,9 +264,18 @@ impl Shards {
     }
 
     fn in_turn(&self) -> impl Iterator<Item = usize> {
-        let count = self.all.len();
-        let first = hint() % count;
-        (first..count).chain(0..first)
+        let first = self.first();
+        (first..self.all.len()).chain(0..first)
+    }
+
+    // Where this thread begins.
+    fn first(&self) -> usize {
+        let at = hint() & self.mask;
+        if at < self.all.len() {
+            at
+        } else {
+            at - self.all.len()
+        }
     }
 
     fn spent_of(&self, number: usize) -> u64 {
@@ -271,12 +302,13 @@ impl Shards {
 
     /// Any shard, to ask it what all would answer.
     pub(crate) fn any(&self) -> Option<MutexGuard<'_, Shard>> {
-        let count = self.all.len();
-        let at = hint().checked_rem(count)?;
+        if self.all.is_empty() {
+            return None;
+        }
         Some(
             self.in_turn()
                 .find_map(|at| self.free(at))
-                .unwrap_or_else(|| self.lock(at)),
+                .unwrap_or_else(|| self.lock(self.first())),
         )
     }
 

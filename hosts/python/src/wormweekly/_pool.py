@@ -4,16 +4,16 @@ from __future__ import annotations
 
 from collections.abc import Iterable, Iterator
 from contextlib import contextmanager
-from queue import Empty, LifoQueue
+from queue import Empty, Queue
 
 from wormweekly._metrics import Recorder
 
 
 class Pool:
-    """Lends recorders to threads, the last one that came back first. Who finds none waits, so long as is said."""
+    """Lends recorders to threads in turn, so that all budgets are spent alike. Who finds none waits, so long as is said."""
 
     def __init__(self, recorders: Iterable[Recorder], timeout: float | None = None) -> None:
-        self._free: LifoQueue[Recorder] = LifoQueue()
+        self._free: Queue[Recorder] = Queue()
         self._timeout = timeout
         for recorder in recorders:
             self._free.put(recorder)
