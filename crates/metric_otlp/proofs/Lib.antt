@@ -1,1 +1,3 @@
 pub mod MemberLaws
+pub mod WrittenLaws
+pub mod RowLaws

@@ -11,3 +11,4 @@ pub mod Members
 pub mod SeriesJson
 pub mod PointsJson
 pub mod Lines
+pub mod Written

@@ -11,7 +11,7 @@ use Rattle.metric_views.specs.declared.stream.StreamAggregation.{StreamAggregati
 use Rattle.metric_views.specs.declared.stream.StreamAggregation.TheVariants.{Sum, LastValue, Histogram}
 use Rattle.metric_history.specs.declared.batch.Batch.{Batch}
 use Rattle.metric_history.specs.declared.batch.Point.{Point}
-use Rattle.metric_wire.specs.Wire.{block}
+use Rattle.metric_wire.specs.Wire.{block, block_head}
 use Rattle.metric_otlp.specs.Fields.{number_field}
 use Rattle.metric_otlp.specs.Points.{point_field}
 use Rattle.metric_otlp.specs.Reports.{ReportedStream}
@@ -57,6 +57,14 @@ data_message keys batch stream points =
     points_fields keys batch stream points
     ++ (number_field 2 (covers stream.temporality stream.aggregation)
     ++ number_field 3 (flag_number (rises stream.kind stream.aggregation)))
+
+-- what a stream declares, and how the block of its points begins, which has so many bytes
+abbrev pub metric_head : Stream → ℕ → List ℕ
+metric_head stream count = concat (
+    text_field 1 stream.name
+    ∷ text_field 2 stream.description
+    ∷ text_field 3 stream.unit
+    ∷ block_head (data_number stream.aggregation) count ∷ [])
 
 -- a stream's metric
 unfoldable pub metric_message : List Key → Batch → Stream → List Point → List ℕ

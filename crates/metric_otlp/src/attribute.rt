@@ -1,11 +1,13 @@
 //! Attributes.
 ghost use Rattle.std.specs.Prelude.{◌≡◌, ◌++◌, OnOk};
-ghost use Rattle.std.specs.List.{flat_map};
+ghost use Rattle.std.specs.List.{concat, flat_map};
 ghost use Rattle.metric_lines.specs.Keys.{attributes_of};
 ghost use Rattle.metric_wire.specs.Wire.{block};
 ghost use Rattle.metric_otlp.specs.Series.{any_value, attribute_field, series_fields, text_field};
+ghost use Rattle.metric_otlp.specs.Written.{entries_at};
 
 use crate::field::push_text;
+use crate::series::{Entries, Form, Series, entry_at};
 use metric_contents::{Key, SetKey};
 use metric_lines::attribute_of;
 use metric_names::AttrValue;
@@ -20,17 +22,49 @@ pub(crate) const OVERFLOW_KEY: &str = "otel.metric.overflow";
 pub(crate) fn push_series(
     out: &mut Vec<u8>,
     field: u32,
-    keys: &[Key],
-    kept: &[bool],
+    series: &Series<'_>,
     set: &Option<SetKey>,
 ) -> Result<(), AllocError>
-    ensures { OnOk result (out.new.items
-        ≡ out.old.items ++ series_fields field keys.now kept.now set.now) }
+    ensures { OnOk result (out.new.items ≡ out.old.items
+        ++ series_fields field series.now.keys.now series.now.kept.now set.now) }
 {
     match set {
-        Some(set) => push_attributes(out, field, keys, kept, set.as_slice()),
+        Some(set) => push_set(out, field, series, set.as_slice()),
         None => push_attribute(out, field, OVERFLOW_KEY, &AttrValue::Flag(true)),
     }
+}
+
+// Writes the attributes of a set key, where there are such from those that are written once for all points.
+#[tactic(auto, using(crate::proofs::WrittenLaws::written_in_a_row))]
+fn push_set(
+    out: &mut Vec<u8>,
+    field: u32,
+    series: &Series<'_>,
+    set: &[u16],
+) -> Result<(), AllocError>
+    ensures { OnOk result (out.new.items ≡ out.old.items ++ flat_map (attribute_field field)
+        (attributes_of series.now.keys.now series.now.kept.now set.now)) }
+{
+    match series.attributes(Form::Bytes(field)) {
+        Some(all) => push_entries(out, all, set),
+        None => push_attributes(out, field, series.keys, series.kept, set),
+    }
+}
+
+#[tactic(auto, unfolding(crate::specs::Written::entries_at))]
+fn push_entries(out: &mut Vec<u8>, all: &[Entries], set: &[u16]) -> Result<(), AllocError>
+    ensures { OnOk result (out.new.items ≡ out.old.items ++ concat (entries_at all.now set.now)) }
+{
+    let Some((entries, all)) = all.split_first() else {
+        return Ok(());
+    };
+    let Some((entry, set)) = set.split_first() else {
+        return Ok(());
+    };
+    if let Some(bytes) = entry_at(entries, *entry) {
+        out.extend_from_slice(bytes)?;
+    }
+    push_entries(out, all, set)
 }
 
 // Writes the attributes that are kept and present.

@@ -1,12 +1,14 @@
 //! Attributes in JSON.
-ghost use Rattle.std.specs.Prelude.{◌≡◌, ◌++◌, OnOk};
+ghost use Rattle.std.specs.Prelude.{◌≡◌, [], ◌++◌, OnOk};
 ghost use Rattle.metric_lines.specs.Keys.{attributes_of};
 ghost use Rattle.metric_text.specs.Lists.{led_by};
 ghost use Rattle.metric_contents.specs.Attributes.{given_by_owned};
 ghost use Rattle.metric_otlp.specs.SeriesJson.{any_value_json, attribute_json, series_json};
+ghost use Rattle.metric_otlp.specs.Written.{entries_at};
 
 use crate::attribute::OVERFLOW_KEY;
 use crate::member::{Member, push_object};
+use crate::series::{Entries, Form, Series, entry_at};
 use metric_contents::{Key, OwnedAttr, SetKey};
 use metric_lines::attribute_of;
 use metric_names::AttrValue;
@@ -18,16 +20,58 @@ use std::alloc::{AllocError, Global};
 pub(crate) fn push_series(
     alloc: Global,
     out: &mut Vec<u8>,
-    keys: &[Key],
-    kept: &[bool],
+    series: &Series<'_>,
     set: &Option<SetKey>,
 ) -> Result<(), AllocError>
     ensures { OnOk result (out.new.items
-        ≡ out.old.items ++ series_json keys.now kept.now set.now) }
+        ≡ out.old.items ++ series_json series.now.keys.now series.now.kept.now set.now) }
 {
     match set {
-        Some(set) => push_attributes(alloc, out, "", keys, kept, set.as_slice()),
+        Some(set) => push_set(alloc, out, series, set.as_slice()),
         None => push_attribute(alloc, out, OVERFLOW_KEY, &AttrValue::Flag(true)),
+    }
+}
+
+// Writes the attributes of a set key, where there are such from those that are written once for all points.
+#[tactic(auto, using(crate::proofs::WrittenLaws::written_with_commas))]
+fn push_set(
+    alloc: Global,
+    out: &mut Vec<u8>,
+    series: &Series<'_>,
+    set: &[u16],
+) -> Result<(), AllocError>
+    ensures { OnOk result (out.new.items ≡ out.old.items ++ led_by [] attribute_json
+        (attributes_of series.now.keys.now series.now.kept.now set.now)) }
+{
+    match series.attributes(Form::Json) {
+        Some(all) => push_entries(out, "", all, set),
+        None => push_attributes(alloc, out, "", series.keys, series.kept, set),
+    }
+}
+
+#[tactic(auto, unfolding(crate::specs::Written::entries_at))]
+fn push_entries(
+    out: &mut Vec<u8>,
+    before: &str,
+    all: &[Entries],
+    set: &[u16],
+) -> Result<(), AllocError>
+    ensures { OnOk result (out.new.items ≡ out.old.items
+        ++ led_by before.now (λ text. text) (entries_at all.now set.now)) }
+{
+    let Some((entries, all)) = all.split_first() else {
+        return Ok(());
+    };
+    let Some((entry, set)) = set.split_first() else {
+        return Ok(());
+    };
+    match entry_at(entries, *entry) {
+        Some(text) => {
+            push_text(out, before)?;
+            out.extend_from_slice(text)?;
+            push_entries(out, ",", all, set)
+        }
+        None => push_entries(out, before, all, set),
     }
 }
 
@@ -80,8 +124,9 @@ pub(crate) fn push_owned(
     push_owned(alloc, out, ",", attributes)
 }
 
+/// Writes an attribute.
 #[tactic(auto, unfolding(crate::specs::SeriesJson::attribute_json))]
-fn push_attribute(
+pub(crate) fn push_attribute(
     alloc: Global,
     out: &mut Vec<u8>,
     key: &str,

@@ -17,6 +17,7 @@ mod point;
 mod point_json;
 mod report;
 mod request;
+mod series;
 
 pub use laws::requests_join;
 pub use line::push_line;

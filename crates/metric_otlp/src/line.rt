@@ -11,6 +11,7 @@ use crate::member::{Member, push_object};
 use crate::metric::{bounds_of, covers, rises};
 use crate::point_json::push_points;
 use crate::report::{Report, Reported, report_of};
+use crate::series::{Form, Series};
 use metric_catalogue::Catalogue;
 use metric_contents::{Key, Meter, OwnedAttr};
 use metric_history::{Batch, Point};
@@ -238,7 +239,8 @@ fn push_stream_points(
 {
     let kept = stream.kept.get().as_slice();
     let bounds = bounds_of(&stream.aggregation);
-    push_points(alloc, out, keys, kept, bounds, batch, points)
+    let series = Series::new(alloc, Form::Json, keys, kept, points.len())?;
+    push_points(alloc, out, &series, bounds, batch, points)
 }
 
 #[tactic(auto, unfolding(crate::specs::Lines::covered_json))]

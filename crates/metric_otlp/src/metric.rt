@@ -1,19 +1,21 @@
 //! Metrics, and the scope that they are of.
 ghost use Rattle.std.specs.Prelude.{◌≡◌, ◌++◌, OnOk, map};
 ghost use Rattle.std.specs.List.{flat_map};
-ghost use Rattle.metric_otlp.specs.Metrics.{bounds_of, covers, data_message, data_number, metric_field};
+ghost use Rattle.metric_otlp.specs.Metrics.{bounds_of, covers, data_message, data_number, metric_field, metric_head};
 ghost use Rattle.metric_otlp.specs.Metrics.{points_fields, rises, temporality_number};
 ghost use Rattle.metric_otlp.specs.Reported.{report_by, reported_by};
 ghost use Rattle.metric_otlp.specs.Scopes.{meter_message, metrics_fields, scope_message};
 ghost use Rattle.metric_otlp.specs.Series.{text_field};
 ghost use Rattle.metric_wire.specs.Wire.{block};
 
-use crate::field::{Field, push_long_message, push_message, push_number, push_text};
-use crate::point::push_point;
+use crate::field::{push_number, push_text};
+use crate::point::{Common, push_point};
 use crate::report::{Report, Reported};
+use crate::series::{Form, Series};
 use metric_contents::{Key, Kind, Meter};
 use metric_history::{Batch, Point};
 use metric_views::{Stream, StreamAggregation, Temporality};
+use metric_wire::{begin_block, end_block, push_block_head, push_block_of_two};
 use std::alloc::{AllocError, Global};
 
 /// Writes what a batch reports: its meter, a metric for each stream, and the meter's schema URL.
@@ -32,15 +34,21 @@ pub(crate) fn push_scope(
     push_text(out, 3, report.meter.schema_url.as_str())
 }
 
-#[tactic(auto, unfolding(crate::specs::Scopes::meter_message))]
+#[tactic(auto, using(metric_wire::specs::ClosingLaws::closing))]
 fn push_meter(out: &mut Vec<u8>, meter: &Meter) -> Result<(), AllocError>
     ensures { OnOk result (out.new.items ≡ out.old.items ++ block 1 (meter_message meter.now)) }
 {
-    let fields = [
-        Field::Text(1, meter.name.as_str()),
-        Field::Text(2, meter.version.as_str()),
-    ];
-    push_message(out, 1, &fields)
+    let place = begin_block(out, 1)?;
+    push_meter_names(out, meter)?;
+    end_block(out, place)
+}
+
+#[tactic(auto, unfolding(crate::specs::Scopes::meter_message))]
+fn push_meter_names(out: &mut Vec<u8>, meter: &Meter) -> Result<(), AllocError>
+    ensures { OnOk result (out.new.items ≡ out.old.items ++ meter_message meter.now) }
+{
+    push_text(out, 1, meter.name.as_str())?;
+    push_text(out, 2, meter.version.as_str())
 }
 
 fn push_metrics(
@@ -61,7 +69,7 @@ fn push_metrics(
 }
 
 // Writes a message `Metric`.
-#[tactic(auto, unfolding(crate::specs::Metrics::metric_message))]
+#[tactic(auto, unfolding(crate::specs::Metrics::metric_message), using(crate::proofs::RowLaws::head_and_data))]
 fn push_metric(
     alloc: Global,
     out: &mut Vec<u8>,
@@ -74,18 +82,25 @@ fn push_metric(
         ++ metric_field keys.now batch.now (record { stream = stream.now; points = points.now })) }
 {
     let mut data = Vec::new(alloc);
-    push_data(&mut data, keys, batch, stream, points)?;
-    let fields = [
-        Field::Text(1, stream.name.get().as_str()),
-        Field::Text(2, stream.description.get().as_str()),
-        Field::Text(3, stream.unit.get().as_str()),
-        Field::Message(data_number(&stream.aggregation), data.as_slice()),
-    ];
-    push_long_message(alloc, out, 2, &fields)
+    push_data(alloc, &mut data, keys, batch, stream, points)?;
+    let mut head = Vec::new(alloc);
+    push_head(&mut head, stream, data.len())?;
+    push_block_of_two(out, 2, head.as_slice(), data.as_slice())
+}
+
+// Writes what a stream declares, and how the block of its points begins, which has so many bytes.
+fn push_head(out: &mut Vec<u8>, stream: &Stream, count: usize) -> Result<(), AllocError>
+    ensures { OnOk result (out.new.items ≡ out.old.items ++ metric_head stream.now count) }
+{
+    push_text(out, 1, stream.name.get().as_str())?;
+    push_text(out, 2, stream.description.get().as_str())?;
+    push_text(out, 3, stream.unit.get().as_str())?;
+    push_block_head(out, data_number(&stream.aggregation), count)
 }
 
 // Writes the points of a stream, and what they are.
 fn push_data(
+    alloc: Global,
     out: &mut Vec<u8>,
     keys: &[Key],
     batch: &Batch,
@@ -95,13 +110,14 @@ fn push_data(
     ensures { OnOk result (out.new.items ≡ out.old.items
         ++ data_message keys.now batch.now stream.now points.now) }
 {
-    push_points(out, keys, batch, stream, points)?;
+    push_points(alloc, out, keys, batch, stream, points)?;
     push_number(out, 2, covers(stream.temporality, &stream.aggregation))?;
     push_number(out, 3, u64::from(rises(stream.kind, &stream.aggregation)))
 }
 
 #[tactic(auto, using(metric_text::specs::ListLaws::steps))]
 fn push_points(
+    alloc: Global,
     out: &mut Vec<u8>,
     keys: &[Key],
     batch: &Batch,
@@ -111,10 +127,12 @@ fn push_points(
     ensures { OnOk result (out.new.items ≡ out.old.items
         ++ points_fields keys.now batch.now stream.now points.now) }
 {
+    let form = Form::Bytes(attributes_number(&stream.aggregation));
     let kept = stream.kept.get().as_slice();
-    let bounds = bounds_of(&stream.aggregation);
+    let series = Series::new(alloc, form, keys, kept, points.len())?;
+    let common = Common::new(alloc, series, bounds_of(&stream.aggregation), batch)?;
     for point in points {
-        push_point(out, keys, kept, bounds, batch, point)?;
+        push_point(out, &common, point)?;
     }
     Ok(())
 }
@@ -165,6 +183,14 @@ fn data_number(aggregation: &StreamAggregation) -> u32
     match aggregation {
         StreamAggregation::LastValue => 5,
         StreamAggregation::Sum => 7,
+        StreamAggregation::Histogram(_) => 9,
+    }
+}
+
+// The field of a point that has its attributes.
+fn attributes_number(aggregation: &StreamAggregation) -> u32 {
+    match aggregation {
+        StreamAggregation::Sum | StreamAggregation::LastValue => 7,
         StreamAggregation::Histogram(_) => 9,
     }
 }

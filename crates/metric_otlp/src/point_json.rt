@@ -6,30 +6,30 @@ ghost use Rattle.metric_otlp.specs.PointsJson.{histogram_json, number_json, poin
 
 use crate::attribute_json::push_series;
 use crate::member::{Member, push_object};
+use crate::series::Series;
 use metric_aggregate::PointValue;
-use metric_contents::Key;
 use metric_history::{Batch, Point};
 use metric_text::push_byte;
 use std::alloc::{AllocError, Global};
 
-/// Writes the points of a stream, which keeps some keys, with commas between.
+/// Writes the points of a stream with commas between.
 pub(crate) fn push_points(
     alloc: Global,
     out: &mut Vec<u8>,
-    keys: &[Key],
-    kept: &[bool],
+    series: &Series<'_>,
     bounds: &[i64],
     batch: &Batch,
     points: &[Point],
 ) -> Result<(), AllocError>
-    ensures { OnOk result (out.new.items ≡ out.old.items
-        ++ joined (point_json keys.now kept.now bounds.now batch.now) points.now) }
+    ensures { OnOk result (out.new.items ≡ out.old.items ++ joined (point_json
+        series.now.keys.now series.now.kept.now bounds.now batch.now) points.now) }
 {
+    let mut room = Vec::new(alloc);
     match points.split_first() {
         None => Ok(()),
         Some((first, others)) => {
-            push_point(alloc, out, keys, kept, bounds, batch, first)?;
-            push_more(alloc, out, keys, kept, bounds, batch, others)
+            push_point(alloc, out, &mut room, series, bounds, batch, first)?;
+            push_more(alloc, out, &mut room, series, bounds, batch, others)
         }
     }
 }
@@ -39,37 +39,39 @@ pub(crate) fn push_points(
 fn push_more(
     alloc: Global,
     out: &mut Vec<u8>,
-    keys: &[Key],
-    kept: &[bool],
+    room: &mut Vec<u8>,
+    series: &Series<'_>,
     bounds: &[i64],
     batch: &Batch,
     points: &[Point],
 ) -> Result<(), AllocError>
     ensures { OnOk result (out.new.items ≡ out.old.items ++ flat_map
-        (λ point. 44 ∷ point_json keys.now kept.now bounds.now batch.now point) points.now) }
+        (λ point. 44 ∷ point_json series.now.keys.now series.now.kept.now
+        bounds.now batch.now point) points.now) }
 {
     for point in points {
         push_byte(out, b',')?;
-        push_point(alloc, out, keys, kept, bounds, batch, point)?;
+        push_point(alloc, out, room, series, bounds, batch, point)?;
     }
     Ok(())
 }
 
+// Writes a point. The room is for its attributes.
 fn push_point(
     alloc: Global,
     out: &mut Vec<u8>,
-    keys: &[Key],
-    kept: &[bool],
+    room: &mut Vec<u8>,
+    series: &Series<'_>,
     bounds: &[i64],
     batch: &Batch,
     point: &Point,
 ) -> Result<(), AllocError>
-    ensures { OnOk result (out.new.items ≡ out.old.items
-        ++ point_json keys.now kept.now bounds.now batch.now point.now) }
+    ensures { OnOk result (out.new.items ≡ out.old.items ++ point_json
+        series.now.keys.now series.now.kept.now bounds.now batch.now point.now) }
 {
-    let mut series = Vec::new(alloc);
-    push_series(alloc, &mut series, keys, kept, &point.set)?;
-    push_value(out, series.as_slice(), bounds, batch, &point.value)
+    room.clear();
+    push_series(alloc, room, series, &point.set)?;
+    push_value(out, room.as_slice(), bounds, batch, &point.value)
 }
 
 fn push_value(

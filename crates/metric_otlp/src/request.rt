@@ -5,7 +5,6 @@ ghost use Rattle.metric_contents.specs.Attributes.{given_by_owned};
 ghost use Rattle.metric_wire.specs.Wire.{block};
 ghost use Rattle.metric_otlp.specs.Reported.{report_by};
 ghost use Rattle.metric_otlp.specs.Requests.{reported_message, request, resource_message};
-ghost use Rattle.metric_otlp.specs.Scopes.{scope_message};
 
 use crate::attribute::push_attribute;
 use crate::metric::push_scope;
@@ -15,7 +14,7 @@ use metric_contents::OwnedAttr;
 use metric_history::Batch;
 use metric_resource::Resource;
 use metric_views::Stream;
-use metric_wire::push_block;
+use metric_wire::{push_block, push_block_head, push_block_of_two};
 use std::alloc::{AllocError, Global};
 
 /// Writes a batch as a message `ExportMetricsServiceRequest` (opentelemetry.proto.collector.metrics.v1): one
@@ -47,6 +46,7 @@ pub fn push_request(
 }
 
 // Writes a message `ResourceMetrics`.
+#[tactic(auto, using(metric_wire::specs::HeadLaws::begun_block))]
 fn push_report(
     alloc: Global,
     out: &mut Vec<u8>,
@@ -57,10 +57,12 @@ fn push_report(
     ensures { OnOk result (out.new.items ≡ out.old.items
         ++ block 1 (reported_message resource.now batch.now (report_by report.now))) }
 {
-    let mut message = Vec::new(alloc);
-    push_resource(alloc, &mut message, resource.as_slice())?;
-    push_scope_metrics(alloc, &mut message, batch, report)?;
-    push_block(out, 1, message.as_slice())
+    let mut scope = Vec::new(alloc);
+    push_scope(alloc, &mut scope, batch, report)?;
+    let mut head = Vec::new(alloc);
+    push_resource(alloc, &mut head, resource.as_slice())?;
+    push_block_head(&mut head, 2, scope.len())?;
+    push_block_of_two(out, 1, head.as_slice(), scope.as_slice())
 }
 
 fn push_resource(
@@ -84,18 +86,4 @@ fn push_owned(out: &mut Vec<u8>, attributes: &[OwnedAttr]) -> Result<(), AllocEr
         push_attribute(out, 1, attribute.key.as_str(), &attribute.value)?;
     }
     Ok(())
-}
-
-fn push_scope_metrics(
-    alloc: Global,
-    out: &mut Vec<u8>,
-    batch: &Batch,
-    report: &Report<'_>,
-) -> Result<(), AllocError>
-    ensures { OnOk result (out.new.items
-        ≡ out.old.items ++ block 2 (scope_message batch.now (report_by report.now))) }
-{
-    let mut message = Vec::new(alloc);
-    push_scope(alloc, &mut message, batch, report)?;
-    push_block(out, 2, message.as_slice())
 }

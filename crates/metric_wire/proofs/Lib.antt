@@ -4,3 +4,4 @@ mod Blocks
 mod Numbers
 mod Packed
 mod Closed
+mod Parts

@@ -2,3 +2,4 @@ pub mod Wire
 pub mod Reading
 pub mod Closing
 pub mod ClosingLaws
+pub mod HeadLaws

@@ -51,6 +51,10 @@ signed_field field number = mark field 1 ++ word (cast_unsigned w64 number)
 unfoldable pub double_field : ℕ → ℤ → List ℕ
 double_field field number = mark field 1 ++ double number
 
+-- how a field begins that is a block of so many bytes
+unfoldable pub block_head : ℕ → ℕ → List ℕ
+block_head field count = mark field 2 ++ varint count
+
 -- a field that is a block of bytes: how many there are, and the bytes
 unfoldable pub block : ℕ → List ℕ → List ℕ
 block field bytes = mark field 2 ++ (varint (length bytes) ++ bytes)

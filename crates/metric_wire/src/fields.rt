@@ -2,7 +2,7 @@
 ghost use Rattle.std.specs.Prelude.{◌≡◌, ◌<◌, ◌++◌, ◌∷◌, [], OnOk, IfOk, length};
 ghost use Rattle.std.specs.List.{flat_map};
 ghost use Rattle.metric_wire.specs.Closing.{closed};
-ghost use Rattle.metric_wire.specs.Wire.{block, double, double_field, doubles_block, mark, signed_field};
+ghost use Rattle.metric_wire.specs.Wire.{block, block_head, double, double_field, doubles_block, mark, signed_field};
 ghost use Rattle.metric_wire.specs.Wire.{varint_field, word, word_field, words_block};
 
 use crate::varint::push_varint;
@@ -63,6 +63,31 @@ pub fn push_block(out: &mut Vec<u8>, field: u32, bytes: &[u8]) -> Result<(), All
     out.extend_from_slice(bytes)
 }
 
+/// Writes how a block of so many bytes begins, which are written next.
+#[tactic(auto, unfolding(crate::specs::Wire::block_head))]
+pub fn push_block_head(out: &mut Vec<u8>, field: u32, count: usize) -> Result<(), AllocError>
+    ensures { OnOk result (out.new.items ≡ out.old.items ++ block_head field count) }
+{
+    push_mark(out, field, BLOCK)?;
+    push_varint(out, count as u64)
+}
+
+/// Writes a block whose bytes stand in two places, so that those that are many are copied once.
+#[tactic(auto, using(crate::proofs::Parts::block_of_two))]
+pub fn push_block_of_two(
+    out: &mut Vec<u8>,
+    field: u32,
+    first: &[u8],
+    second: &[u8],
+) -> Result<(), AllocError>
+    ensures { OnOk result (out.new.items
+        ≡ out.old.items ++ block field (first.now ++ second.now)) }
+{
+    push_block_head(out, field, first.len() + second.len())?;
+    out.extend_from_slice(first)?;
+    out.extend_from_slice(second)
+}
+
 /// Begins a block whose bytes are written next, and gives the place of one byte for how many they will be.
 pub fn begin_block(out: &mut Vec<u8>, field: u32) -> Result<usize, AllocError>
     ensures bytes { OnOk result (out.new.items ≡ (out.old.items ++ mark field 2) ++ 0 ∷ []) }
@@ -74,9 +99,9 @@ pub fn begin_block(out: &mut Vec<u8>, field: u32) -> Result<usize, AllocError>
     Ok(place)
 }
 
-/// Ends a block: writes at its place how many bytes stand after it. Those of more than 127 bytes move, so a long block
+/// Ends a block: writes at its place how many bytes stand after it. From 128 bytes on they move, so a long block
 /// is better written apart and pushed.
-#[tactic(auto, unfolding(crate::specs::Closing::closed), using(crate::proofs::Closed::short_closed))]
+#[tactic(auto, unfolding(crate::specs::Closing::closed), using(crate::proofs::Closed::short_closed, crate::proofs::Closed::middle_closed))]
 pub fn end_block(out: &mut Vec<u8>, place: usize) -> Result<(), AllocError>
     requires { place < length out.old.items }
     ensures { OnOk result (out.new.items ≡ closed place out.old.items) }
@@ -84,6 +109,11 @@ pub fn end_block(out: &mut Vec<u8>, place: usize) -> Result<(), AllocError>
     let count = out.len() - place - 1;
     if count < 128 {
         out[place] = count as u8;
+        return Ok(());
+    }
+    if count < 128 * 128 {
+        out[place] = (128 + count % 128) as u8;
+        out.insert(place + 1, (count / 128) as u8)?;
         return Ok(());
     }
     let content = out.split_off(place + 1)?;

@@ -8,8 +8,8 @@ mod laws;
 mod varint;
 
 pub use fields::{
-    begin_block, end_block, push_block, push_double_field, push_doubles_block, push_signed_field,
-    push_varint_field, push_word_field, push_words_block,
+    begin_block, end_block, push_block, push_block_head, push_block_of_two, push_double_field,
+    push_doubles_block, push_signed_field, push_varint_field, push_word_field, push_words_block,
 };
 pub use laws::what_is_written_is_read_back;
 pub use varint::push_varint;
