@@ -32,11 +32,18 @@ number_lines Counter family labels created n =
 number_lines Gauge family labels created n = sample family [] labels (signed_decimal n)
 number_lines Histogram family labels created n = sample family [] labels (signed_decimal n)
 
--- a bucket: how many values are at most its boundary
-unfoldable pub bucket_line : List ℕ → List ℕ → List ℕ × ℕ → List ℕ
-bucket_line family labels bucket = concat (
-    family ∷ codes "_bucket{" ∷ comma_after labels ∷ codes "le=\"" ∷ bucket.0
-    ∷ codes "\"} " ∷ decimal bucket.1 ∷ codes "\n" ∷ [])
+-- how the lines of buckets begin, up to the boundary
+unfoldable pub bucket_head : List ℕ → List ℕ → List ℕ
+bucket_head family labels =
+    concat (family ∷ codes "_bucket{" ∷ comma_after labels ∷ codes "le=\"" ∷ [])
+
+-- a bucket behind that: its boundary, and how many values are at most that
+unfoldable pub line_after : List ℕ → List ℕ × ℕ → List ℕ
+line_after head bucket =
+    concat (head ∷ bucket.0 ∷ codes "\"} " ∷ decimal bucket.1 ∷ codes "\n" ∷ [])
+
+abbrev pub bucket_line : List ℕ → List ℕ → List ℕ × ℕ → List ℕ
+bucket_line family labels = line_after (bucket_head family labels)
 
 -- the boundaries of buckets from below; the last one has none
 abbrev pub les : List ℤ → List (List ℕ)

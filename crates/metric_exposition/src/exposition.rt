@@ -130,15 +130,25 @@ fn push_named(
         name.now stream.now) }
 {
     push_header(alloc, out, source.dialect, name, stream)?;
-    let mut labels = Vec::new(alloc);
-    push_points(out, &mut labels, source, name, stream, points)
+    let mut room = Room {
+        labels: Vec::new(alloc),
+        head: Vec::new(alloc),
+    };
+    push_points(out, &mut room, source, name, stream, points)
 }
 
-// Writes the lines of points. Their labels are written into a buffer first, since each line of a histogram has them.
+// Where what several lines of a point have is written first: its labels, and how the lines of its buckets begin.
+#[derive(Drop)]
+struct Room {
+    labels: Vec<u8>,
+    head: Vec<u8>,
+}
+
+// Writes the lines of points.
 #[tactic(auto, using(metric_text::specs::ListLaws::steps))]
 fn push_points(
     out: &mut Vec<u8>,
-    labels: &mut Vec<u8>,
+    room: &mut Room,
     source: &Source<'_>,
     name: &str,
     stream: &Stream,
@@ -149,14 +159,14 @@ fn push_points(
         source.now.start) points.now) }
 {
     for point in points {
-        push_point(out, labels, source, name, stream, point)?;
+        push_point(out, room, source, name, stream, point)?;
     }
     Ok(())
 }
 
 fn push_point(
     out: &mut Vec<u8>,
-    labels: &mut Vec<u8>,
+    room: &mut Room,
     source: &Source<'_>,
     name: &str,
     stream: &Stream,
@@ -167,17 +177,31 @@ fn push_point(
         source.now.start point.now) }
 {
     let kept = stream.kept.get().as_slice();
-    fill_point_labels(labels, source.meter, source.keys, kept, &point.set)?;
+    fill_point_labels(
+        &mut room.labels,
+        source.meter,
+        source.keys,
+        kept,
+        &point.set,
+    )?;
     let series = Series {
         family: name,
-        labels: labels.as_slice(),
+        labels: room.labels.as_slice(),
         created: source.dialect.created_at(source.start),
     };
-    push_value(out, source.dialect, stream, &series, &point.value)
+    push_value(
+        out,
+        &mut room.head,
+        source.dialect,
+        stream,
+        &series,
+        &point.value,
+    )
 }
 
 fn push_value(
     out: &mut Vec<u8>,
+    head: &mut Vec<u8>,
     dialect: Dialect,
     stream: &Stream,
     series: &Series<'_>,
@@ -204,6 +228,7 @@ fn push_value(
             };
             push_histogram(
                 out,
+                head,
                 dialect,
                 series,
                 boundaries_of(&stream.aggregation),

@@ -4,11 +4,13 @@ ghost use Rattle.std.specs.Int.{is_negative};
 ghost use Rattle.std.specs.List.{flat_map, list_any};
 ghost use Rattle.metric_exposition.specs.Dialects.{is_open_metrics};
 ghost use Rattle.metric_exposition.specs.Pieces.{piece_text};
-ghost use Rattle.metric_exposition.specs.Samples.{bucket_line, buckets, count_line, histogram_lines, sum_line, sum_told};
+ghost use Rattle.metric_exposition.specs.Samples.{bucket_head, buckets, count_line, histogram_lines, line_after, sum_line, sum_told};
 
 use crate::dialect::Dialect;
-use crate::piece::{Piece, push_pieces};
+use crate::piece::{Piece, push_piece, push_pieces};
 use crate::sample::{Series, push_created, push_sample};
+use itoa::Buffer;
+use metric_text::push_text;
 use std::alloc::AllocError;
 
 /// What a histogram has counted.
@@ -22,10 +24,11 @@ pub(crate) struct Counted<'a> {
     pub sum: Option<i64>,
 }
 
-/// Writes the lines of a histogram with these boundaries.
+/// Writes the lines of a histogram with these boundaries. How those of its buckets begin is made once, in the room `head`.
 #[tactic(auto, unfolding(crate::specs::Samples::histogram_lines))]
 pub(crate) fn push_histogram(
     out: &mut Vec<u8>,
+    head: &mut Vec<u8>,
     dialect: Dialect,
     series: &Series<'_>,
     boundaries: &[i64],
@@ -35,59 +38,68 @@ pub(crate) fn push_histogram(
         series.now.family.now series.now.labels.now series.now.created boundaries.now
         counted.now.count counted.now.counts.now counted.now.sum) }
 {
-    push_buckets(out, series, boundaries, counted.counts)?;
+    fill_head(head, series)?;
+    push_buckets(out, head.as_slice(), boundaries, counted.counts)?;
     let sum = sum_told(dialect, boundaries, counted.sum);
     push_sum(out, series, sum)?;
     push_count(out, dialect, series, sum, counted.count)?;
     push_created(out, series)
 }
 
+#[tactic(auto, unfolding(crate::specs::Samples::bucket_head))]
+fn fill_head(head: &mut Vec<u8>, series: &Series<'_>) -> Result<(), AllocError>
+    ensures { OnOk result (head.new.items
+        ≡ bucket_head series.now.family.now series.now.labels.now) }
+{
+    head.clear();
+    let pieces = [
+        Piece::Text(series.family),
+        Piece::Text("_bucket{"),
+        Piece::Led(series.labels),
+        Piece::Text("le=\""),
+    ];
+    push_pieces(head, &pieces)
+}
+
 // Writes a line for each boundary and at last for all: how many values are at most as great. Each count has 64 bits, so
 // that their sum needs more.
 fn push_buckets(
     out: &mut Vec<u8>,
-    series: &Series<'_>,
+    head: &[u8],
     boundaries: &[i64],
     counts: &[u64],
 ) -> Result<(), AllocError>
-    ensures { OnOk result (out.new.items ≡ out.old.items ++ flat_map
-        (bucket_line series.now.family.now series.now.labels.now)
-        (buckets boundaries.now counts.now)) }
+    ensures { OnOk result (out.new.items ≡ out.old.items
+        ++ flat_map (line_after head.now) (buckets boundaries.now counts.now)) }
 {
     let mut total: u128 = 0;
     let mut boundaries = boundaries;
     for count in counts {
         total += u128::from(*count);
         let Some((boundary, others)) = boundaries.split_first() else {
-            return push_bucket(out, series, Piece::Text("+Inf"), total);
+            return push_bucket(out, head, Piece::Text("+Inf"), total);
         };
-        push_bucket(out, series, Piece::Boundary(*boundary), total)?;
+        push_bucket(out, head, Piece::Boundary(*boundary), total)?;
         boundaries = others;
     }
     Ok(())
 }
 
-#[tactic(auto, unfolding(crate::specs::Samples::bucket_line))]
-fn push_bucket<'a>(
+#[tactic(auto, unfolding(crate::specs::Samples::line_after))]
+fn push_bucket(
     out: &mut Vec<u8>,
-    series: &Series<'a>,
-    boundary: Piece<'a>,
+    head: &[u8],
+    boundary: Piece<'_>,
     total: u128,
 ) -> Result<(), AllocError>
-    ensures { OnOk result (out.new.items ≡ out.old.items ++ bucket_line
-        series.now.family.now series.now.labels.now (piece_text boundary.entry, total)) }
+    ensures { OnOk result (out.new.items ≡ out.old.items
+        ++ line_after head.now (piece_text boundary.entry, total)) }
 {
-    let pieces = [
-        Piece::Text(series.family),
-        Piece::Text("_bucket{"),
-        Piece::Led(series.labels),
-        Piece::Text("le=\""),
-        boundary,
-        Piece::Text("\"} "),
-        Piece::Count(total),
-        Piece::Text("\n"),
-    ];
-    push_pieces(out, &pieces)
+    out.extend_from_slice(head)?;
+    push_piece(out, &boundary)?;
+    push_text(out, "\"} ")?;
+    push_text(out, Buffer::new().format(total))?;
+    push_text(out, "\n")
 }
 
 // The sum that is told: none in OpenMetrics where a boundary is negative.
