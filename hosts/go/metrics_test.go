@@ -7,6 +7,7 @@ import (
 	"errors"
 	"math"
 	"math/big"
+	"os"
 	"reflect"
 	"runtime"
 	"strings"
@@ -343,4 +344,17 @@ func ignoreNoBatch(err error) error {
 		return nil
 	}
 	return err
+}
+
+func TestClientsChooseAFormat(t *testing.T) {
+	table, err := os.ReadFile("../accept.txt")
+	if err != nil {
+		t.Skip(err) // it is beside the hosts, and not in the module
+	}
+	for _, line := range strings.Split(strings.TrimSpace(string(table)), "\n")[1:] {
+		word, accept, _ := strings.Cut(line, " ")
+		if got := Accepted(accept); (got == OpenMetrics) != (word == "openmetrics") {
+			t.Errorf("%v for %q", got, accept)
+		}
+	}
 }

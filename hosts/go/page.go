@@ -3,6 +3,8 @@ package wormweekly
 import (
 	"bytes"
 	"fmt"
+	"math"
+	"strconv"
 	"strings"
 	"time"
 )
@@ -17,12 +19,37 @@ const (
 	OpenMetricsCreated
 )
 
-// Accepted is the dialect for whoever asks with this header Accept.
+// Accepted is the dialect for whoever asks with this header Accept: OpenMetrics where it is named, with no less weight than plain
+// text.
 func Accepted(accept string) Dialect {
-	if strings.Contains(accept, "application/openmetrics-text") {
+	var openMetrics, text float64
+	for _, one := range strings.Split(strings.ToLower(accept), ",") {
+		words := strings.Split(one, ";")
+		switch weight := weightOf(words[1:]); strings.TrimSpace(words[0]) {
+		case "application/openmetrics-text":
+			openMetrics = math.Max(openMetrics, weight)
+		case "text/plain":
+			text = math.Max(text, weight)
+		}
+	}
+	if openMetrics > 0 && openMetrics >= text {
 		return OpenMetrics
 	}
 	return Text
+}
+
+// The weight that a part of a header Accept has; none, where it says what is no weight.
+func weightOf(parameters []string) float64 {
+	for _, one := range parameters {
+		if said := strings.TrimPrefix(strings.TrimSpace(one), "q="); said != strings.TrimSpace(one) {
+			weight, err := strconv.ParseFloat(said, 64)
+			if err != nil || !(weight >= 0 && weight <= 1) {
+				return 0
+			}
+			return weight
+		}
+	}
+	return 1
 }
 
 // ContentType is what a page is served as.

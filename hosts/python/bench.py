@@ -2,7 +2,8 @@
 
     python bench.py [RECORDINGS]      how many each thread makes in a round; the best of five rounds is told
 
-Each thread of this package has a recorder of its own; those of the client share its counter, as they do in a service.
+All threads share an instrument, and those of the client its counter, as they do in a service; lists are made by a recorder of
+each thread.
 """
 
 from __future__ import annotations
@@ -33,10 +34,12 @@ Work = Callable[[int], None]
 
 def catalogue() -> str:
     keys = ", ".join(f"{{ name = '{key}', values = {list(values)} }}" for key, values in KEYS.items())
-    instrument = f"[[meter.instrument]]\nname = 'requests'\nkind = 'counter'\nrange = [0, 100]\nkey = [{keys}]\n"
-    recorder = "[[recorder]]\nname = 'worker'\nbudget = [{ instrument = 0, amount = 1000000000000 }]\n"
-    names = [recorder.replace("worker", f"worker {number}") for number in range(THREADS)]
-    return "format = 1\n[[meter]]\nname = 'measured'\n" + instrument + "".join(names)
+    text = "format = 1\n[[meter]]\nname = 'measured'\n"
+    text += f"[[meter.instrument]]\nname = 'requests'\nkind = 'counter'\nrange = [0, 100]\nkey = [{keys}]\n"
+    text += "[[meter.instrument]]\nname = 'took'\nkind = 'histogram'\nrange = [0, 60000]\nboundaries = [10, 100]\n"
+    text += f"key = [{keys}]\n[[meter.instrument]]\nname = 'in_flight'\nkind = 'up_down_counter'\nrange = [-1, 1]\n"
+    budgets = ", ".join(f"{{ instrument = {number}, amount = 1000000000000 }}" for number in range(3))
+    return text + "".join(f"[[recorder]]\nname = 'worker {number}'\nbudget = [{budgets}]\n" for number in range(THREADS))
 
 
 def nanoseconds(works: list[Work], count: int) -> float:
@@ -56,22 +59,32 @@ def nanoseconds(works: list[Work], count: int) -> float:
 class Ours:
     def __init__(self) -> None:
         self.metrics = wormweekly.Metrics.open(catalogue(), CONFIG)
-        self.requests = self.metrics.instrument("requests")
+        self.requests, self.took, self.in_flight = self.metrics.instruments
         self.bound = [self.requests.bind(one) for one in SETS]
 
-    def at_the_call(self, recorder: wormweekly.Recorder, count: int) -> None:
-        recorder.take_over()
-        record, requests = recorder.record, self.requests
+    def at_the_call(self, count: int) -> None:
+        add = self.requests.add
         for _ in range(count // len(SETS)):
             for one in SETS:
-                record(requests, one, 1)
+                add(1, one)
 
-    def with_bound_sets(self, recorder: wormweekly.Recorder, count: int) -> None:
-        recorder.take_over()
-        add = recorder.add
+    def with_bound_sets(self, count: int) -> None:
         for _ in range(count // len(SETS)):
             for one in self.bound:
-                add(one, 1)
+                one.add(1)
+
+    def timed(self, count: int) -> None:
+        time_of = self.took.time
+        for _ in range(count // len(SETS)):
+            for one in SETS:
+                with time_of(one):
+                    pass
+
+    def counted(self, count: int) -> None:
+        in_flight = self.in_flight.in_flight
+        for _ in range(count):
+            with in_flight():
+                pass
 
     def in_lists(self, recorder: wormweekly.Recorder, count: int) -> None:
         recorder.take_over()
@@ -80,14 +93,16 @@ class Ours:
         for _ in range(count // len(SETS)):
             add_all(items)
 
-    def works(self, call: Callable[[wormweekly.Recorder, int], None], threads: int) -> list[Work]:
-        return [partial(call, recorder) for recorder in self.metrics.recorders[:threads]]
+    def listed(self, threads: int) -> list[Work]:
+        return [partial(self.in_lists, recorder) for recorder in self.metrics.recorders[:threads]]
 
 
 class Theirs:
     def __init__(self) -> None:
         registry = prometheus_client.CollectorRegistry()
         self.requests = prometheus_client.Counter("requests", "measured", list(KEYS), registry=registry)
+        self.took = prometheus_client.Histogram("took", "measured", list(KEYS), registry=registry, buckets=(10, 100))
+        self.in_flight = prometheus_client.Gauge("in_flight", "measured", registry=registry)
         self.bound = [self.requests.labels(**one) for one in SETS]
 
     def at_the_call(self, count: int) -> None:
@@ -101,19 +116,34 @@ class Theirs:
             for one in self.bound:
                 one.inc()
 
+    def timed(self, count: int) -> None:
+        labels = self.took.labels
+        for _ in range(count // len(SETS)):
+            for one in SETS:
+                with labels(**one).time():
+                    pass
+
+    def counted(self, count: int) -> None:
+        in_flight = self.in_flight.track_inprogress
+        for _ in range(count):
+            with in_flight():
+                pass
+
 
 def main(count: int) -> None:
     ours, theirs = Ours(), Theirs()
     print(f"nanoseconds for a recording with three attributes; {count} recordings of each thread")
     for threads in (1, THREADS):
         print(f"{threads} thread{'s' if threads > 1 else ''}{'':33}wormweekly    client    ratio")
-        rows: list[tuple[str, Callable[[wormweekly.Recorder, int], None], Work]] = [
-            ("at the call", ours.at_the_call, theirs.at_the_call),
-            ("bound", ours.with_bound_sets, theirs.with_bound_sets),
-            ("bound, sixteen in one call", ours.in_lists, theirs.with_bound_sets),
+        rows: list[tuple[str, list[Work], Work]] = [
+            ("at the call", [ours.at_the_call] * threads, theirs.at_the_call),
+            ("bound", [ours.with_bound_sets] * threads, theirs.with_bound_sets),
+            ("bound, sixteen in one call", ours.listed(threads), theirs.with_bound_sets),
+            ("a block that is timed", [ours.timed] * threads, theirs.timed),
+            ("a block in flight, without attributes", [ours.counted] * threads, theirs.counted),
         ]
         for name, own, peer in rows:
-            mine = nanoseconds(ours.works(own, threads), count)
+            mine = nanoseconds(own, count)
             other = nanoseconds([peer] * threads, count)
             print(f"  {name:<40}{mine:>10.0f}{other:>10.0f}{mine / other:>9.2f}")
 

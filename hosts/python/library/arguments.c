@@ -12,28 +12,40 @@ int has_count(Run *run, Py_ssize_t given, Py_ssize_t wanted) {
     return 0;
 }
 
-/* A whole number, and whether it is inside of 64 bits. */
-static int read_whole(Run *run, PyObject *given, int64_t *value, int *is_inside) {
-    int outside = 0;
+/* A whole number; on which side of 64 bits it is, 0 where it is inside. */
+static int read_whole(Run *run, PyObject *given, int64_t *value, int *outside) {
     if (!PyLong_Check(given)) {
         refuse_type(run, "a whole number", given);
         return 0;
     }
-    *value = PyLong_AsLongLongAndOverflow(given, &outside);
-    *is_inside = outside == 0;
+    *value = PyLong_AsLongLongAndOverflow(given, outside);
     return 1;
 }
 
 /* What is outside of 64 bits is in no range. */
 int read_value(Run *run, PyObject *given, int64_t *value) {
-    int is_inside;
-    if (!read_whole(run, given, value, &is_inside)) {
+    int outside;
+    if (!read_whole(run, given, value, &outside)) {
         return 0;
     }
-    if (!is_inside) {
+    if (outside != 0) {
         refuse(run, WORMWEEKLY_VALUE_RANGE);
     }
-    return is_inside;
+    return outside == 0;
+}
+
+/* The same of what is recorded as the greatest value of a range where it is above. */
+int read_measured(Run *run, PyObject *given, int64_t *value) {
+    int outside;
+    if (!read_whole(run, given, value, &outside)) {
+        return 0;
+    }
+    if (outside < 0) {
+        refuse(run, WORMWEEKLY_VALUE_RANGE);
+    } else if (outside > 0) {
+        *value = INT64_MAX;
+    }
+    return outside >= 0;
 }
 
 int read_unsigned(Run *run, PyObject *given, uint64_t *value, uint32_t refusal) {
@@ -132,7 +144,7 @@ static int add_text(Run *run, Given *given, PyObject *text, size_t *length) {
 
 static int add_attribute(Run *run, Given *given, PyObject *key, PyObject *value) {
     wormweekly_attribute *own = &given->all[given->own.count];
-    int is_inside = 1;
+    int outside;
     *own = (wormweekly_attribute){ 0 };
     if (!PyUnicode_Check(key)) {
         refuse_type(run, "a text as a key", key);
@@ -155,10 +167,13 @@ static int add_attribute(Run *run, Given *given, PyObject *key, PyObject *value)
         return 0;
     }
     own->kind = WORMWEEKLY_WHOLE;
-    if (read_whole(run, value, &own->whole, &is_inside) && !is_inside) {
+    if (!read_whole(run, value, &own->whole, &outside)) {
+        return 0;
+    }
+    if (outside != 0) {
         refuse(run, WORMWEEKLY_UNKNOWN_VALUE);
     }
-    return is_inside;
+    return outside == 0;
 }
 
 /* The keys are compared with one another, so no more than 65 are read. Of so many a key is unknown, and a resource has fewer:

@@ -11,26 +11,32 @@ static PyObject *new_bound(Run *run, size_t instrument, const wormweekly_prepare
     return (PyObject *)made;
 }
 
-static PyObject *bind(Seat *self, PyObject *attributes) {
-    Run *run = self->run;
+int prepare_set(Seat *on, PyObject *attributes, wormweekly_prepared *prepared) {
+    Run *run = on->run;
     Given given;
-    wormweekly_prepared prepared = { { 0 }, 0 };
-    PyObject *made = NULL;
+    int is_found = 0;
     if (!is_whole(run)) {
-        return NULL;
+        return 0;
     }
     if (read_attributes(run, attributes, &given)) {
-        uint32_t answer = handles_prepare(&run->handles, self->number, &given.own, &prepared);
-        made = answer == WORMWEEKLY_DONE ? new_bound(run, self->number, &prepared)
-                                         : refuse_said(run, answer, 0, self->number, &given.own, 0);
+        uint32_t answer = handles_prepare(&run->handles, on->number, &given.own, prepared);
+        is_found = answer == WORMWEEKLY_DONE;
+        if (!is_found) {
+            refuse_said(run, answer, 0, on->number, &given.own, 0);
+        }
     }
     free_given(&given);
-    return made;
+    return is_found;
+}
+
+static PyObject *bind(Seat *self, PyObject *attributes) {
+    wormweekly_prepared prepared = { { 0 }, 0 };
+    return prepare_set(self, attributes, &prepared) ? new_bound(self->run, self->number, &prepared) : NULL;
 }
 
 /* Recordings by any recorder, which any thread may make. */
 
-static PyObject *made_of(Run *run, size_t instrument, Recording *what) {
+PyObject *made_of(Run *run, size_t instrument, Recording *what) {
     uint32_t answer = handles_record_shared(&run->handles, instrument, what);
     if (answer == WORMWEEKLY_DONE || what->given == NULL) {
         return done(run, answer);
@@ -61,28 +67,36 @@ static PyObject *add(Seat *self, PyObject *const *args, Py_ssize_t count) {
     return settled(self->run, self->number, record_given(self, args[0], count == 2 ? args[1] : NULL));
 }
 
-/* (bound set, value, whether it was clamped) */
-static PyObject *add_clamped(Seat *self, PyObject *const *args, Py_ssize_t count) {
-    Run *run = self->run;
-    Recording what = { .given = NULL };
-    Bound *bound;
-    PyObject *made = NULL;
-    if (!has_count(run, count, 3) || (bound = read_bound(run, args[0])) == NULL) {
-        return NULL;
+PyObject *made_clamped(Run *run, size_t instrument, Recording *what) {
+    Beside *beside = &run->beside[instrument];
+    int is_above = what->prepared.value > beside->greatest;
+    PyObject *made;
+    if (is_above) {
+        what->prepared.value = beside->greatest;
     }
-    what.prepared = bound->prepared;
-    if (is_whole(run) && read_value(run, args[1], &what.prepared.value)) {
-        made = made_of(run, self->number, &what);
+    made = is_whole(run) ? made_of(run, instrument, what) : NULL;
+    if (made != NULL && is_above) {
+        beside->clamped++;
     }
-    if (made != NULL && args[2] == Py_True) {
-        self->clamped++;
-    }
-    return settled(run, self->number, made);
+    return settled(run, instrument, made);
 }
 
-static PyObject *count_refused(Seat *self, PyObject *refusal) {
-    PyErr_SetObject((PyObject *)Py_TYPE(refusal), refusal);
-    return settled(self->run, self->number, NULL);
+/* record_clamped(value), record_clamped(value, attributes) */
+static PyObject *record_clamped(Seat *self, PyObject *const *args, Py_ssize_t count) {
+    Run *run = self->run;
+    Given given;
+    Recording what = { .given = &given.own };
+    PyObject *made = NULL;
+    if (count != 2 && !has_count(run, count, 1)) {
+        return NULL;
+    }
+    if (!read_measured(run, args[0], &what.prepared.value)) {
+        return settled(run, self->number, NULL);
+    }
+    made = read_attributes(run, count == 2 ? args[1] : NULL, &given) ? made_clamped(run, self->number, &what)
+                                                                     : settled(run, self->number, NULL);
+    free_given(&given);
+    return made;
 }
 
 static PyObject *refused(Seat *self, PyObject *unused) {
@@ -97,41 +111,6 @@ static PyObject *add_bound(Bound *self, PyObject *value) {
     PyObject *made = NULL;
     if (is_whole(run) && read_value(run, value, &what.prepared.value)) {
         made = made_of(run, self->instrument, &what);
-    }
-    return settled(run, self->instrument, made);
-}
-
-/* (number of a recorder, number of the run) where it is counted in, or None */
-static PyObject *count_in(Bound *self, PyObject *unused) {
-    Run *run = self->run;
-    Recording what = { .prepared = self->prepared, .is_counted_in = 1 };
-    PyObject *made;
-    (void)unused;
-    what.prepared.value = 1;
-    made = is_whole(run) ? made_of(run, self->instrument, &what) : NULL;
-    if (made == NULL) {
-        return settled(run, self->instrument, NULL);
-    }
-    Py_DECREF(made);
-    return Py_BuildValue("(nk)", (Py_ssize_t)what.place.recorder, what.place.run);
-}
-
-static PyObject *count_out(Bound *self, PyObject *args) {
-    Run *run = self->run;
-    wormweekly_prepared own = self->prepared;
-    PyObject *made = NULL;
-    Py_ssize_t recorder;
-    Place place = { 0, 0 };
-    if (!PyArg_ParseTuple(args, "nk", &recorder, &place.run)) {
-        return NULL;
-    }
-    if (recorder < 0 || (size_t)recorder >= run->handles.lists.counts.recorders) {
-        return refuse(run, WORMWEEKLY_UNKNOWN);
-    }
-    own.value = -1;
-    place.recorder = (size_t)recorder;
-    if (is_whole(run)) {
-        made = done(run, handles_count_out(&run->handles, self->instrument, &own, &place));
     }
     return settled(run, self->instrument, made);
 }
@@ -175,16 +154,9 @@ static PyObject *close_it(Seat *self, PyObject *unused) {
     return is_whole(self->run) ? done(self->run, handles_close(&self->run->handles, self->number)) : NULL;
 }
 
-/* Counts in C, where no other thread comes between. */
-static PyObject *count_clamped(Seat *self, PyObject *unused) {
-    (void)unused;
-    self->clamped++;
-    return Py_NewRef(Py_None);
-}
-
 static PyObject *clamped(Seat *self, PyObject *unused) {
     (void)unused;
-    return PyLong_FromUnsignedLongLong(self->clamped);
+    return PyLong_FromUnsignedLongLong(self->run->beside[self->number].clamped);
 }
 
 /* What the library answers to a key with a value alone; that it is done where no recording can tell more. */
@@ -221,7 +193,7 @@ static PyObject *known_or(Seat *self, PyObject *const *args, Py_ssize_t count) {
     if (answer != WORMWEEKLY_UNKNOWN_VALUE) {
         return Py_NewRef(args[1]);
     }
-    self->replaced++;
+    self->run->beside[self->number].replaced++;
     return Py_NewRef(args[2]);
 }
 
@@ -232,7 +204,7 @@ static PyObject *declares(Seat *self, PyObject *key) {
 
 static PyObject *replaced(Seat *self, PyObject *unused) {
     (void)unused;
-    return PyLong_FromUnsignedLongLong(self->replaced);
+    return PyLong_FromUnsignedLongLong(self->run->beside[self->number].replaced);
 }
 
 static PyMethodDef methods[] = {
@@ -242,12 +214,12 @@ static PyMethodDef methods[] = {
     { "add", (PyCFunction)(void (*)(void))add, METH_FASTCALL, NULL },
     { "record", (PyCFunction)(void (*)(void))add, METH_FASTCALL, NULL },
     { "_refused", (PyCFunction)refused, METH_NOARGS, NULL },
-    { "_add_clamped", (PyCFunction)(void (*)(void))add_clamped, METH_FASTCALL, NULL },
-    { "_count_refused", (PyCFunction)count_refused, METH_O, NULL },
+    { "record_clamped", (PyCFunction)(void (*)(void))record_clamped, METH_FASTCALL, NULL },
+    { "time", (PyCFunction)(void (*)(void))time_blocks, METH_VARARGS | METH_KEYWORDS, NULL },
+    { "in_flight", (PyCFunction)(void (*)(void))count_blocks, METH_VARARGS | METH_KEYWORDS, NULL },
     { "bind", (PyCFunction)bind, METH_O, NULL },
     { "grant", (PyCFunction)(void (*)(void))grant, METH_FASTCALL, NULL },
     { "_spare", (PyCFunction)spare, METH_NOARGS, NULL },
-    { "_count_clamped", (PyCFunction)count_clamped, METH_NOARGS, NULL },
     { "_clamped", (PyCFunction)clamped, METH_NOARGS, NULL },
     { "close", (PyCFunction)close_it, METH_NOARGS, NULL },
     { NULL, NULL, 0, NULL },
@@ -263,8 +235,8 @@ PyType_Spec instrument_spec = { "wormweekly._library.Instrument", sizeof(Seat), 
 static PyMethodDef bound_methods[] = {
     { "add", (PyCFunction)add_bound, METH_O, NULL },
     { "record", (PyCFunction)add_bound, METH_O, NULL },
-    { "_count_in", (PyCFunction)count_in, METH_NOARGS, NULL },
-    { "_count_out", (PyCFunction)count_out, METH_VARARGS, NULL },
+    { "time", (PyCFunction)(void (*)(void))time_bound, METH_VARARGS | METH_KEYWORDS, NULL },
+    { "in_flight", (PyCFunction)count_bound, METH_NOARGS, NULL },
     { NULL, NULL, 0, NULL },
 };
 

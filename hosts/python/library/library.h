@@ -18,10 +18,17 @@ enum {
 };
 
 typedef struct {
-    PyTypeObject *run, *instrument, *recorder, *reader, *bound;
+    PyTypeObject *run, *instrument, *recorder, *reader, *bound, *timer, *in_flight;
     PyObject *refusal;  /* makes an exception of a number, and of what is told beside it */
     PyObject *refusals; /* the class of all of them */
 } State;
+
+/* What is kept of an instrument beside the library: the greatest value of its range; how many values above that were recorded
+   as it; how many that it does not declare were replaced. */
+typedef struct {
+    int64_t greatest;
+    unsigned long long clamped, replaced;
+} Beside;
 
 /* What instruments are refused is raised where the run is strict; else it is counted, by instrument and by name, and each is
    told once. */
@@ -32,16 +39,15 @@ typedef struct {
     Handles handles;
     int is_strict;
     PyObject *tell, *refused, *weak;
+    Beside *beside; /* of each instrument */
 } Run;
 
-/* An instrument, a recorder or a reader of a run. The owner is the thread of a recorder, 0 before there is one; what is
-   clamped are durations on an instrument, what is replaced are values that it does not declare. */
+/* An instrument, a recorder or a reader of a run. The owner is the thread of a recorder, 0 before there is one. */
 typedef struct {
     PyObject_HEAD
     Run *run;
     size_t number;
     unsigned long owner;
-    unsigned long long clamped, replaced;
 } Seat;
 
 typedef struct {
@@ -66,9 +72,18 @@ int is_whole(Run *run);
    strict. */
 PyObject *settled(Run *run, size_t instrument, PyObject *answer);
 
+/* Looks up a set of attributes for recordings on an instrument; that without any, where there is no mapping. */
+int prepare_set(Seat *on, PyObject *attributes, wormweekly_prepared *prepared);
+
+/* Makes a recording by any recorder. The second one makes that of a bound set, and of what is above the range as its greatest
+   value, and settles it. */
+PyObject *made_of(Run *run, size_t instrument, Recording *what);
+PyObject *made_clamped(Run *run, size_t instrument, Recording *what);
+
 /* Arguments: each answers 0 or NULL with an exception where it is not what is wanted. */
 int has_count(Run *run, Py_ssize_t given, Py_ssize_t wanted);
 int read_value(Run *run, PyObject *given, int64_t *value);
+int read_measured(Run *run, PyObject *given, int64_t *value);
 int read_unsigned(Run *run, PyObject *given, uint64_t *value, uint32_t refusal);
 int read_text(Run *run, PyObject *given, Text *text);
 Seat *read_seat(Run *run, PyObject *given, PyTypeObject *type, const char *wanted);
@@ -101,10 +116,16 @@ PyObject *ask_long_bytes(Run *run, Ask ask, void *handle, size_t form);
 PyObject *batch_of(Run *run, wormweekly_reader *reader);
 PyObject *batch_text_of(Run *run, wormweekly_reader *reader);
 
+/* time(attributes, unit) and in_flight(attributes) of an instrument; time(unit) and in_flight() of a bound set. */
+PyObject *time_blocks(Seat *self, PyObject *args, PyObject *keywords);
+PyObject *count_blocks(Seat *self, PyObject *args, PyObject *keywords);
+PyObject *time_bound(Bound *self, PyObject *args, PyObject *keywords);
+PyObject *count_bound(Bound *self, PyObject *unused);
+
 /* Types: what makes none, and what frees a seat or a bound set. */
 PyObject *no_new(PyTypeObject *type, PyObject *args, PyObject *keywords);
 void seat_free(Seat *self);
 
-extern PyType_Spec run_spec, instrument_spec, recorder_spec, reader_spec, bound_spec;
+extern PyType_Spec run_spec, instrument_spec, recorder_spec, reader_spec, bound_spec, timer_spec, in_flight_spec;
 
 #endif

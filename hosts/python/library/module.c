@@ -37,6 +37,8 @@ static int fill(PyObject *module) {
     state->recorder = new_type(module, &recorder_spec);
     state->reader = new_type(module, &reader_spec);
     state->bound = new_type(module, &bound_spec);
+    state->timer = new_type(module, &timer_spec);
+    state->in_flight = new_type(module, &in_flight_spec);
     return PyErr_Occurred() ? -1 : 0;
 }
 
@@ -49,6 +51,8 @@ static int visit_all(PyObject *module, visitproc visit, void *arg) {
     Py_VISIT(state->recorder);
     Py_VISIT(state->reader);
     Py_VISIT(state->bound);
+    Py_VISIT(state->timer);
+    Py_VISIT(state->in_flight);
     return 0;
 }
 
@@ -61,6 +65,8 @@ static int clear(PyObject *module) {
     Py_CLEAR(state->recorder);
     Py_CLEAR(state->reader);
     Py_CLEAR(state->bound);
+    Py_CLEAR(state->timer);
+    Py_CLEAR(state->in_flight);
     return 0;
 }
 

@@ -36,10 +36,12 @@ static Run *empty_run(PyTypeObject *type) {
     return run;
 }
 
-/* A dict for the refusals of each instrument. */
-static int has_counts(Run *run) {
-    run->refused = PyList_New(0);
-    for (size_t at = 0; run->refused != NULL && at < run->handles.lists.counts.instruments; at++) {
+/* What is kept beside the library, with a dict for the refusals of each instrument. */
+static int has_beside(Run *run) {
+    size_t count = run->handles.lists.counts.instruments;
+    run->beside = calloc(count + 1, sizeof *run->beside);
+    run->refused = run->beside == NULL ? PyErr_NoMemory() : PyList_New(0);
+    for (size_t at = 0; run->refused != NULL && at < count; at++) {
         PyObject *own = PyDict_New();
         if (own == NULL || PyList_Append(run->refused, own) < 0) {
             Py_CLEAR(run->refused);
@@ -47,6 +49,18 @@ static int has_counts(Run *run) {
         Py_XDECREF(own);
     }
     return run->refused != NULL;
+}
+
+/* The greatest value of each instrument, that of all numbers where nobody records. The run is only just opened. */
+static void read_ranges(Run *run) {
+    const Lists *lists = &run->handles.lists;
+    for (size_t at = 0; at < lists->counts.instruments; at++) {
+        wormweekly_range_out out = { INT64_MIN, INT64_MAX };
+        if (lists->counts.recorders > 0) {
+            wormweekly_range(&lists->recorders[0], (uint32_t)at, &out);
+        }
+        run->beside[at].greatest = out.greatest;
+    }
 }
 
 /* Run(catalogue, config, certificate or None, start, is strict, what tells a refusal) */
@@ -63,11 +77,12 @@ static PyObject *run_new(PyTypeObject *type, PyObject *args, PyObject *keywords)
         run->tell = Py_NewRef(tell);
         made = opened(run, &texts, handles_open);
     }
-    if (made == NULL || !has_counts(run)) {
+    if (made == NULL || !has_beside(run)) {
         Py_XDECREF(made);
         Py_DECREF(run);
         return NULL;
     }
+    read_ranges(run);
     Py_DECREF(made);
     return (PyObject *)run;
 }
@@ -129,6 +144,7 @@ static void run_free(Run *run) {
     Py_XDECREF(run->module);
     Py_XDECREF(run->tell);
     Py_XDECREF(run->refused);
+    free(run->beside);
     ((freefunc)PyType_GetSlot(type, Py_tp_free))(run);
     Py_DECREF(type);
 }
@@ -172,22 +188,6 @@ static PyObject *name(Run *self, PyObject *args) {
     }
     return lists->counts.readers > 0 ? ask_text(self, reader_name_of, &lists->readers[0], kind, number)
                                      : PyUnicode_FromString("");
-}
-
-/* (least, greatest) of an instrument; all numbers where nobody records. The run is only just opened. */
-static PyObject *range(Run *self, PyObject *args) {
-    wormweekly_range_out out = { INT64_MIN, INT64_MAX };
-    uint32_t answer = WORMWEEKLY_DONE;
-    unsigned int number;
-    if (!PyArg_ParseTuple(args, "I", &number) || !is_whole(self)) {
-        return NULL;
-    }
-    if (self->handles.lists.counts.recorders > 0) {
-        answer = wormweekly_range(handles_lend_recorder(&self->handles, 0), number, &out);
-        handles_take_recorder(&self->handles, 0);
-    }
-    return answer == WORMWEEKLY_DONE ? Py_BuildValue("(LL)", (long long)out.least, (long long)out.greatest)
-                                     : refuse(self, answer);
 }
 
 static PyObject *warnings(Run *self, PyObject *unused) {
@@ -274,8 +274,12 @@ static Run *run_beside(Run *self) {
     made->is_strict = self->is_strict;
     made->tell = Py_NewRef(self->tell);
     made->handles.lists.counts = self->handles.lists.counts;
-    if (!has_counts(made)) {
+    if (!has_beside(made)) {
         Py_CLEAR(made);
+        return NULL;
+    }
+    for (size_t at = 0; at < made->handles.lists.counts.instruments; at++) {
+        made->beside[at].greatest = self->beside[at].greatest;
     }
     return made;
 }
@@ -317,7 +321,6 @@ static PyMethodDef methods[] = {
     { "open_anew", (PyCFunction)open_anew, METH_VARARGS, NULL },
     { "counts", (PyCFunction)counts, METH_NOARGS, NULL },
     { "name", (PyCFunction)name, METH_VARARGS, NULL },
-    { "range", (PyCFunction)range, METH_VARARGS, NULL },
     { "warnings", (PyCFunction)warnings, METH_NOARGS, NULL },
     { "instrument", (PyCFunction)instrument, METH_VARARGS, NULL },
     { "recorder", (PyCFunction)recorder, METH_VARARGS, NULL },

@@ -3,6 +3,7 @@
 import gc
 import json
 import unittest
+from pathlib import Path
 
 from tests.plans import CONFIG, HOME, opened
 from wormweekly import (
@@ -128,12 +129,10 @@ class Batches(unittest.TestCase):
         self.assertEqual(caught.exception.name, "NotExposed")
 
     def test_dialects(self) -> None:
-        for accept, dialect in [
-            ("", Dialect.TEXT),
-            ("text/plain", Dialect.TEXT),
-            ("application/openmetrics-text;version=1.0.0,text/plain;version=0.0.4;q=0.5", Dialect.OPEN_METRICS),
-        ]:
-            self.assertIs(Dialect.accepted(accept), dialect)
+        dialects = {"text": Dialect.TEXT, "openmetrics": Dialect.OPEN_METRICS}
+        lines = (Path(__file__).resolve().parents[2] / "accept.txt").read_text().splitlines()[1:]
+        for word, _, accept in (line.partition(" ") for line in lines):
+            self.assertIs(Dialect.accepted(accept), dialects[word], accept)
 
     def test_no_recorder(self) -> None:
         instrument = "[[meter.instrument]]\nname = 'i'\nkind = 'counter'\nrange = [0, 1]\n"

@@ -1,7 +1,6 @@
 """Recordings of any thread."""
 
 import logging
-import os
 import sys
 import threading
 import unittest
@@ -295,35 +294,6 @@ class Shared(unittest.TestCase):
         self.assertEqual((self.metrics.settle()[0], self.metrics.part_left()), (Total(0, 0), 1.0))
         with self.assertRaises(StrangerRefusal):
             self.metrics.readers[0].collect(ended.instruments[0])
-
-    @unittest.skipUnless(hasattr(os, "fork"), "there is no fork")
-    def test_after_a_fork_the_child_goes_on_without_counting(self) -> None:
-        child = os.fork()
-        if child == 0:
-            self.requests.add(1, HOME)
-            with self.requests.time(HOME):
-                pass
-            os._exit(0 if self.requests.refused == {"Forked": 2} else 1)
-        self.assertEqual(os.waitpid(child, 0)[1], 0)
-        self.assertEqual(self.metrics.settle()[0].count, 0)
-
-
-    @unittest.skipUnless(hasattr(os, "fork"), "there is no fork")
-    def test_a_run_is_opened_anew_in_a_child(self) -> None:
-        metrics = Metrics.open(CATALOGUE, CONFIG, reopen_in_child=True)
-        requests, in_flight = metrics.instruments[:2]
-        bound, block = requests.bind(HOME), in_flight.in_flight()
-        bound.add(1)
-        block.__enter__()
-        child = os.fork()
-        if child == 0:
-            block.__exit__(None, None, None)
-            bound.add(2)
-            requests.add(3, HOME)
-            os._exit(0 if metrics.settle()[:2] == (Total(2, 5), Total(0, 0)) and not requests.refused else 1)
-        self.assertEqual(os.waitpid(child, 0)[1], 0)
-        block.__exit__(None, None, None)
-        self.assertEqual(metrics.settle()[:2], (Total(1, 1), Total(2, 0)))
 
 
 class Failing:

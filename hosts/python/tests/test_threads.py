@@ -1,10 +1,9 @@
-"""Threads and processes."""
+"""Threads."""
 
-import os
 import sys
 import threading
 import unittest
-from collections.abc import Callable, Iterator, Mapping
+from collections.abc import Callable
 from concurrent.futures import ThreadPoolExecutor
 from typing import TypeVar
 
@@ -18,22 +17,6 @@ def elsewhere(call: Callable[[], T]) -> T:
     """What a call answers, or raises, in another thread."""
     with ThreadPoolExecutor(1) as other:
         return other.submit(call).result()
-
-
-class Forking(Mapping[str, str | int | bool]):
-    """Attributes, for which the process forks."""
-
-    child = 0
-
-    def __getitem__(self, key: str) -> str | int | bool:
-        return HOME[key]
-
-    def __iter__(self) -> Iterator[str]:
-        self.child = os.fork()
-        return iter(HOME)
-
-    def __len__(self) -> int:
-        return len(HOME)
 
 
 class Threads(unittest.TestCase):
@@ -164,45 +147,3 @@ class Threads(unittest.TestCase):
         sys.setswitchinterval(interval)
         self.assertEqual(self.metrics.settle()[0].count, 0)
         self.assertTrue(refused <= 200)
-
-    def is_refused_to_a_new_run(self) -> bool:
-        own = opened()
-        requests = own.instrument("requests")
-        own.recorders[0].record(requests, HOME, 1)
-        calls: list[Callable[[], object]] = [
-            lambda: own.recorders[0].record(self.requests, HOME, 1),
-            lambda: own.readers[0].collect(self.requests),
-            lambda: requests.grant(self.first, 1),
-            self.metrics.settle,
-        ]
-        names = []
-        for call in calls:
-            try:
-                call()
-            except ThreadRefusal as refusal:
-                names.append(refusal.name)
-        return names == ["Forked"] * len(calls) and own.settle()[0].count == 1
-
-    def test_attributes_that_fork(self) -> None:
-        given, name = Forking(), ""
-        try:
-            self.first.record(self.requests, given, 1)
-        except ThreadRefusal as refusal:
-            name = refusal.name
-        if given.child == 0:
-            os._exit(0 if name == "Forked" else 1)
-        self.assertEqual(os.waitstatus_to_exitcode(os.waitpid(given.child, 0)[1]), 0)
-        self.assertEqual((name, self.metrics.settle()[0].count), ("", 1))
-
-    def test_a_child_is_refused(self) -> None:
-        child = os.fork()
-        if child == 0:
-            status = 1
-            try:
-                self.first.record(self.requests, HOME, 1)
-            except ThreadRefusal as refusal:
-                status = 0 if refusal.name == "Forked" and self.is_refused_to_a_new_run() else 2
-            finally:
-                os._exit(status)
-        self.assertEqual(os.waitstatus_to_exitcode(os.waitpid(child, 0)[1]), 0)
-        self.first.record(self.requests, HOME, 1)

@@ -13,9 +13,21 @@ pub enum Dialect {
 }
 
 impl Dialect {
-    /// The format that a client asks for in its header `Accept`: OpenMetrics where it names that, else the text format.
+    /// The format that a client asks for in its header `Accept`: OpenMetrics where it names that, with no less weight than plain
+    /// text; else the text format.
     pub fn for_accept(accept: &str) -> Dialect {
-        match accept.contains("application/openmetrics-text") {
+        let (mut open_metrics, mut text) = (0.0_f64, 0.0_f64);
+        for one in accept.to_ascii_lowercase().split(',') {
+            let mut words = one.split(';').map(str::trim);
+            match words.next() {
+                Some("application/openmetrics-text") => {
+                    open_metrics = open_metrics.max(weight_of(words));
+                }
+                Some("text/plain") => text = text.max(weight_of(words)),
+                _ => {}
+            }
+        }
+        match open_metrics > 0.0 && open_metrics >= text {
             true => Dialect::OpenMetrics,
             false => Dialect::Text,
         }
@@ -43,5 +55,16 @@ impl Dialect {
             Dialect::Text => "",
             _ => "# EOF\n",
         }
+    }
+}
+
+// The weight that a part of a header `Accept` has; none, where it says what is no weight.
+fn weight_of<'a>(mut parameters: impl Iterator<Item = &'a str>) -> f64 {
+    let said = parameters.find_map(|one| one.strip_prefix("q="));
+    let weight = said.unwrap_or("1").parse().unwrap_or(0.0);
+    if (0.0..=1.0).contains(&weight) {
+        weight
+    } else {
+        0.0
     }
 }

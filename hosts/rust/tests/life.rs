@@ -162,16 +162,14 @@ fn what_a_server_would_lose_is_told() -> Result<(), Box<dyn std::error::Error>> 
 
 #[test]
 fn clients_choose_a_format() {
-    let accepts = [
-        ("*/*", Dialect::Text),
-        ("text/plain;version=0.0.4;q=0.5", Dialect::Text),
-        (
-            "application/openmetrics-text;version=1.0.0;q=0.8,text/plain;q=0.5",
-            Dialect::OpenMetrics,
-        ),
-    ];
-    for (accept, dialect) in accepts {
-        assert_eq!(Dialect::for_accept(accept), dialect);
+    let lines = include_str!(concat!(env!("CARGO_MANIFEST_DIR"), "/../accept.txt"));
+    for line in lines.lines().skip(1) {
+        let (word, accept) = line.split_once(' ').unwrap_or((line, ""));
+        let dialect = match word {
+            "text" => Dialect::Text,
+            _ => Dialect::OpenMetrics,
+        };
+        assert_eq!(Dialect::for_accept(accept), dialect, "{accept}");
     }
 }
 

@@ -23,7 +23,7 @@ like a mistake in a catalogue and a config. After a fork, a run is refused in th
 """
 
 from wormweekly._batches import Batch, Buckets, Kind, Last, Point, Stream, Sum, Value
-from wormweekly._library import Bound
+from wormweekly._library import Bound, InFlight, Timer
 from wormweekly._metrics import (
     Attributes,
     Budget,
@@ -56,7 +56,6 @@ from wormweekly._refusals import (
     ThreadRefusal,
     TypeRefusal,
 )
-from wormweekly._scopes import InFlight, RecorderInFlight, RecorderTimer, Timer
 
 __version__ = "0.4.0"
 
@@ -86,8 +85,6 @@ __all__ = [
     "RangeRefusal",
     "Reader",
     "Recorder",
-    "RecorderInFlight",
-    "RecorderTimer",
     "Refusal",
     "ResourceRefusal",
     "SettleRefusal",

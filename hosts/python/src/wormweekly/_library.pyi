@@ -1,4 +1,5 @@
 from collections.abc import Callable, Mapping
+from types import TracebackType
 from typing import TypeVar
 
 from wormweekly._refusals import Refusal
@@ -20,8 +21,28 @@ class Bound:
         """Adds to a counter or an up-down counter. Any thread may."""
     def record(self, value: int, /) -> None:
         """Records a value of a histogram or a gauge. Any thread may."""
-    def _count_in(self) -> tuple[int, int] | None: ...
-    def _count_out(self, recorder: int, run: int, /) -> None: ...
+    def time(self, unit: int = ...) -> Timer:
+        """The same as `Instrument.time`, of this set."""
+    def in_flight(self) -> InFlight:
+        """The same as `Instrument.in_flight`, of this set."""
+
+class _Scope:
+    def __exit__(
+        self, kind: type[BaseException] | None, fault: BaseException | None, at: TracebackType | None, /
+    ) -> None: ...
+
+class Timer(_Scope):
+    """Records how long a block took, by any recorder."""
+
+    def __enter__(self) -> Timer: ...
+
+class InFlight(_Scope):
+    """Counts a block in and out, by any recorder."""
+
+    @property
+    def is_counted(self) -> bool:
+        """Whether it is counted in."""
+    def __enter__(self) -> InFlight: ...
 
 class Instrument:
     def add(self, value: int, attributes: _Attributes = ..., /) -> None:
@@ -35,14 +56,21 @@ class Instrument:
         """Whether it declares a key."""
     def _replaced(self) -> int: ...
     def _refused(self) -> dict[str, int]: ...
-    def _add_clamped(self, bound: Bound, value: int, is_clamped: bool, /) -> None: ...
-    def _count_refused(self, refusal: Refusal, /) -> None: ...
+    def record_clamped(self, value: int, attributes: _Attributes = ..., /) -> None:
+        """Records a value, and one above the range as its greatest value, which `clamped` counts."""
+    def time(self, attributes: _Attributes | None = None, unit: int = ...) -> Timer:
+        """A `with` that records how long its block took, in units of so many nanoseconds: milliseconds, if nothing else is
+        said. What is above the range is recorded as its greatest value, and `clamped` counts it. The attributes are looked
+        up before the block."""
+    def in_flight(self, attributes: _Attributes | None = None) -> InFlight:
+        """A `with` that counts its block in and out, on an up-down counter. What could not be counted out is not counted
+        in: where fewer than two recordings are left for it, beside those that count out what is under way, it is refused.
+        The attributes are looked up before the block."""
     def bind(self, attributes: _Attributes, /) -> Bound:
         """Finds a set of attributes once, for recordings by `Bound.add`, or by `Recorder.add`."""
     def grant(self, recorder: Recorder, amount: int, /) -> None:
         """Grants a recorder so many recordings beside its budget, of what is left of the spare budget."""
     def _spare(self) -> tuple[int, int, int]: ...
-    def _count_clamped(self) -> None: ...
     def _clamped(self) -> int: ...
     def close(self) -> None:
         """Ends the recordings. The instrument is collected and settled as before."""
@@ -89,7 +117,6 @@ class Run:
     def lint(cls, catalogue: str, config: str, /) -> str: ...
     def counts(self) -> tuple[int, int, int]: ...
     def name(self, kind: int, number: int, /) -> str: ...
-    def range(self, number: int, /) -> tuple[int, int]: ...
     def warnings(self) -> str: ...
     def instrument(self, kind: type[_I], number: int, /) -> _I: ...
     def recorder(self, kind: type[_R], number: int, /) -> _R: ...

@@ -5,18 +5,14 @@ from __future__ import annotations
 import os
 import time
 import weakref
-from collections import Counter
-from collections.abc import Callable, Mapping
+from collections.abc import Callable, Iterable, Mapping
 from dataclasses import dataclass
 from enum import IntEnum
 from typing import TypeVar
 
 from wormweekly import _library
-from wormweekly._library import Bound
 from wormweekly._batches import Batch, Value, batch_of
-
-from wormweekly._refusals import ClosedRefusal, Refusal, Teller
-from wormweekly._scopes import Handler, InFlight, RecorderInFlight, RecorderTimer, Timer
+from wormweekly._refusals import ClosedRefusal, Teller
 
 Attributes = Mapping[str, Value]
 
@@ -39,8 +35,24 @@ class Dialect(IntEnum):
 
     @classmethod
     def accepted(cls, accept: str) -> Dialect:
-        """That for whoever asks with this header `Accept`."""
-        return cls.OPEN_METRICS if "application/openmetrics-text" in accept else cls.TEXT
+        """That for whoever asks with this header `Accept`: OpenMetrics where it is named, with no less weight than plain text."""
+        weights = {"application/openmetrics-text": 0.0, "text/plain": 0.0}
+        for one in accept.lower().split(","):
+            name, *parameters = (word.strip() for word in one.split(";"))
+            if name in weights:
+                weights[name] = max(weights[name], _weight(parameters))
+        open_metrics, text = weights.values()
+        return cls.OPEN_METRICS if 0.0 < open_metrics >= text else cls.TEXT
+
+
+def _weight(parameters: Iterable[str]) -> float:
+    """The weight that a part of a header `Accept` has; none, where it says what is no weight."""
+    said = next((one[2:] for one in parameters if one.startswith("q=")), "1")
+    try:
+        weight = float(said)
+    except ValueError:
+        return 0.0
+    return weight if 0.0 <= weight <= 1.0 else 0.0
 
 
 def lint(catalogue: str, config: str) -> list[str]:
@@ -106,11 +118,10 @@ class Instrument(_library.Instrument):
     last one asks the spare budget; only then is a recording refused. What is refused, for whatever reason, changes nothing
     but `refused`, and is logged once for each reason; a run that was opened with `strict=True` raises it."""
 
-    __slots__ = ("_greatest", "_meter", "_name", "_number")
+    __slots__ = ("_meter", "_name", "_number")
     _name: str
     _meter: str
     _number: int
-    _greatest: int
 
     @property
     def name(self) -> str:
@@ -133,8 +144,8 @@ class Instrument(_library.Instrument):
 
     @property
     def clamped(self) -> int:
-        """How many durations above its range `time` recorded as the greatest value of the range. Where these are many,
-        declare a wider range."""
+        """How many values above its range `time` and `record_clamped` recorded as the greatest value of the range. Where these
+        are many, declare a wider range."""
         return self._clamped()
 
     @property
@@ -147,46 +158,17 @@ class Instrument(_library.Instrument):
         """How often recordings on it were refused, by the refusal's name."""
         return self._refused()
 
-    def time(self, attributes: Attributes | None = None, unit: int = 1_000_000) -> Timer:
-        """A `with` that records how long its block took, in units of so many nanoseconds: milliseconds, if nothing else
-        is said. What is above the range is recorded as its greatest value, and `clamped` counts it. The attributes are
-        looked up before the block."""
-        return Timer(self, self._bound(attributes), unit)
-
-    def record_clamped(self, value: int, attributes: Attributes | None = None) -> None:
-        """Records a value, and one above the range as its greatest value, which `clamped` counts."""
-        if (bound := self._bound(attributes)) is not None:
-            self._took(bound, value)
-
-    def in_flight(self, attributes: Attributes | None = None) -> InFlight:
-        """A `with` that counts its block in and out, on an up-down counter. What could not be counted out is not counted
-        in: where fewer than two recordings are left for it, beside those that count out what is under way, it is
-        refused. The attributes are looked up before the block."""
-        return InFlight(self._bound(attributes))
-
-    def _took(self, bound: Bound, took: int) -> None:
-        self._add_clamped(bound, min(took, self._greatest), took > self._greatest)
-
-    def _bound(self, attributes: Attributes | None) -> Bound | None:
-        try:
-            return self.bind(attributes or {})
-        except Refusal as refusal:
-            self._count_refused(refusal)
-            return None
-
     def __repr__(self) -> str:
         return f"<wormweekly.Instrument {self._number} {self._meter}/{self._name}>"
 
 
 class Recorder(_library.Recorder):
-    """The seat of a recorder, for a thread that wants its own: `Instrument.add` needs none. It is the first thread's that records with it, until another calls `take_over`.
+    """The seat of a recorder, for a thread that wants its own: `Instrument.add` needs none. It is the first thread's that
+    records with it, until another calls `take_over`."""
 
-    `under_way` is how many blocks each instrument, by its number, has counted in and not out again."""
-
-    __slots__ = ("_name", "_number", "under_way")
+    __slots__ = ("_name", "_number")
     _name: str
     _number: int
-    under_way: Counter[int]
 
     @property
     def name(self) -> str:
@@ -197,16 +179,6 @@ class Recorder(_library.Recorder):
     def number(self) -> int:
         """Its number in the catalogue, from 0."""
         return self._number
-
-    def time(
-        self, instrument: Instrument, attributes: Attributes, unit: int = 1_000_000, refused: Handler = None
-    ) -> RecorderTimer:
-        """The same as `Instrument.time`, by this recorder. A refusal after the block is raised, or given to `refused`."""
-        return RecorderTimer(self, instrument, instrument.bind(attributes), unit, refused)
-
-    def in_flight(self, instrument: Instrument, attributes: Attributes, refused: Handler = None) -> RecorderInFlight:
-        """The same as `Instrument.in_flight`, by this recorder. A refusal is raised, or given to `refused`."""
-        return RecorderInFlight(self, instrument, instrument.bind(attributes), refused)
 
     def budget(self, instrument: Instrument) -> Budget:
         """What it may record on an instrument. Any thread may ask."""
@@ -406,14 +378,12 @@ def _instrument(run: _library.Run, number: int) -> Instrument:
     made._number = number
     made._name = run.name(_INSTRUMENT_NAME, number)
     made._meter = run.name(_METER_NAME, number)
-    made._greatest = run.range(number)[1]
     return made
 
 
 def _recorder(run: _library.Run, number: int) -> Recorder:
     made = run.recorder(Recorder, number)
     made._number = number
-    made.under_way = Counter()
     made._name = run.name(_RECORDER_NAME, number)
     return made
 

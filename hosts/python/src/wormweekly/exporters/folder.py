@@ -113,7 +113,6 @@ class PageFolder:
 
     def _begin_in_child(self) -> None:
         self._lives.close()  # here alone
-        self._page.forget()
         self._turn = threading.Lock()
         self._ended = threading.Event()
         self._ended.set()

@@ -30,6 +30,7 @@ from typing import IO
 from urllib.parse import unquote, urlsplit
 
 from wormweekly import Attributes, Ended, Metrics, Reader, __version__
+from wormweekly._metrics import at_fork
 from wormweekly.exporters.pages import roll_over_part
 
 __all__ = ["Exporter", "Settings", "SettingsFault"]
@@ -126,7 +127,8 @@ class _Environment:
 
 
 class Exporter:
-    """Collects by a reader at each interval, and posts. No one else collects by this reader.
+    """Collects by a reader at each interval, and posts. No one else collects by this reader. In the child of a fork it has
+    ended, and what waits is the parent's: begin one there.
 
     `posted` counts the collections that were taken, `dropped` those that were refused for good, and the oldest ones where
     more than `most_waiting` bytes wait; `rejected` the points that a collector says it did not take."""
@@ -158,9 +160,11 @@ class Exporter:
         self._turn = threading.Lock()
         self._ended = threading.Event()
         self._opener = urllib.request.build_opener(_NoRedirect)
+        self._is_childs = False
         self._collect(metrics, time.time_ns())
         self._thread = threading.Thread(target=self._run, name="wormweekly otlp", daemon=True)
         self._thread.start()
+        at_fork(self, after_in_child=Exporter._end_in_child)
 
     @property
     def waiting(self) -> int:
@@ -169,6 +173,8 @@ class Exporter:
 
     def flush(self) -> bool:
         """Collects, and posts what waits unless a pause is asked for. Whether all was answered."""
+        if self._is_childs:
+            return True
         with self._turn:
             self._collect(self._metrics, time.time_ns())
             return self._push()
@@ -190,6 +196,11 @@ class Exporter:
 
     def __exit__(self, kind: type[BaseException] | None, fault: BaseException | None, at: TracebackType | None) -> None:
         self.shutdown()
+
+    def _end_in_child(self) -> None:
+        """What the parent's thread held then is held here for ever."""
+        self._is_childs, self._ended = True, threading.Event()
+        self._waiting.clear()
 
     def _run(self) -> None:
         while not self._ended.wait(min(self.settings.interval, _LONGEST_SLEEP)):

@@ -11,6 +11,7 @@ from collections.abc import Callable
 from dataclasses import dataclass, field
 
 from wormweekly import Attributes, Ended, Metrics, Reader
+from wormweekly._metrics import at_fork
 
 __all__ = ["Page"]
 
@@ -37,11 +38,12 @@ class Page:
         reader.expose()
         self._metrics, self._reader, self._resource = metrics, reader, resource or {}
         self._roll_over_below = roll_over_part(metrics) if roll_over_below is None else roll_over_below
-        self.forget()
+        self._begin()
         self.text()
+        at_fork(self, after_in_child=Page._begin)
 
-    def forget(self) -> None:
-        """Forgets what ended, as in the child of a fork."""
+    def _begin(self) -> None:
+        """Begins, or begins anew in the child of a fork: what ended before is the parent's, who may have held the lock."""
         self._turn = threading.Lock()
         self._ended = ""
 
