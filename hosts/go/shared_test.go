@@ -236,14 +236,14 @@ func summed(batch Batch) (sum uint64) {
 func TestEachRecordingIsCollectedOnce(t *testing.T) {
 	metrics, _, _, requests := opened(t)
 	bound := must(requests.Bind(home...))(t)
-	made, working := [4]uint64{}, int32(4)
+	made := [4]uint64{}
+	var isOver atomic.Bool
 	var waiting sync.WaitGroup
 	for number := range made {
 		waiting.Add(1)
 		go func(own *uint64) {
 			defer waiting.Done()
-			defer atomic.AddInt32(&working, -1)
-			for tried := 0; tried < 30_000; tried++ {
+			for tried := 0; tried < 30_000 || !isOver.Load(); tried++ {
 				if bound.TryAdd(1) == nil {
 					*own++
 				}
@@ -251,22 +251,23 @@ func TestEachRecordingIsCollectedOnce(t *testing.T) {
 		}(&made[number])
 	}
 	// All that cumulative and delta readers collect. The first ones give it all again, so they are asked at the end alone.
-	var all, new, runs uint64
+	var all, new uint64
 	collect := func(metrics *Metrics, isEnded bool) {
 		new += summed(must(metrics.Readers[1].Collect(metrics.Instruments[0], time.Now()))(t))
 		if isEnded {
 			all += summed(must(metrics.Readers[0].Collect(metrics.Instruments[0], time.Now()))(t))
 		}
 	}
-	for ; atomic.LoadInt32(&working) > 0; runs++ {
+	for runs := 0; runs < 20; runs++ {
 		collect(metrics, false)
 		collect(must(metrics.RollOver(time.Now()))(t).Metrics, true)
 	}
+	isOver.Store(true)
 	waiting.Wait()
 	collect(must(metrics.RollOver(time.Now()))(t).Metrics, true)
 	counted := made[0] + made[1] + made[2] + made[3]
 	equal(t, [2]uint64{all, new}, [2]uint64{counted, counted})
-	equal(t, counted > 100_000 && runs > 10, true)
+	equal(t, counted > 100_000, true)
 }
 
 func TestAnUndeclaredValueIsAnother(t *testing.T) {
