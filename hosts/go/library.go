@@ -245,15 +245,17 @@ type given struct {
 	isOwned    bool
 }
 
-// The keys are compared with one another, so no more than 65 are given. Of so many a key is unknown or stands twice, and what
-// follows could not mend that.
+// The keys are compared with one another, so no more than 65 are given. Of so many a key is unknown or stands twice, a resource
+// has fewer, and what follows could not mend that.
+func most(attributes []Attr) []Attr {
+	return attributes[:min(len(attributes), C.MOST_ATTRIBUTES)]
+}
+
 func (own *handles) give(recorder int, attributes []Attr) given {
-	if len(attributes) > C.MOST_ATTRIBUTES {
-		attributes = attributes[:C.MOST_ATTRIBUTES]
-	}
+	attributes = most(attributes)
 	length := lengthOf(attributes)
 	if length > C.FEW_BYTES || len(attributes) > C.FEW_ATTRIBUTES {
-		return giveMany(length, attributes)
+		return giveMany(attributes)
 	}
 	room := &unsafe.Slice(own.rooms, int(own.counts.recorders))[recorder]
 	made := given{texts: &room.texts[0], attributes: &room.attributes[0], length: length, count: len(attributes)}
@@ -261,9 +263,10 @@ func (own *handles) give(recorder int, attributes []Attr) given {
 	return made
 }
 
-func giveMany(length int, attributes []Attr) given {
-	made := given{length: length, count: len(attributes), isOwned: true}
-	made.texts = (*C.uint8_t)(C.malloc(C.size_t(length) + 1))
+func giveMany(attributes []Attr) given {
+	attributes = most(attributes)
+	made := given{length: lengthOf(attributes), count: len(attributes), isOwned: true}
+	made.texts = (*C.uint8_t)(C.malloc(C.size_t(made.length) + 1))
 	made.attributes = (*C.wormweekly_attribute)(C.calloc(C.size_t(len(attributes))+1, C.sizeof_wormweekly_attribute))
 	made.fill(attributes)
 	return made

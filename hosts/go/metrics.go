@@ -477,7 +477,7 @@ func (reader *Reader) OTLPLine(instrument *Instrument, now time.Time, resource .
 
 // A resource that is not taken is told before a window is collected, which would be lost.
 func (reader *Reader) otlp(instrument *Instrument, now time.Time, resource []Attr, json int) ([]byte, error) {
-	of := giveMany(lengthOf(resource), resource)
+	of := giveMany(resource)
 	defer of.free()
 	reader.mutex.Lock()
 	defer reader.mutex.Unlock()

@@ -86,7 +86,7 @@ func (reader *Reader) Prometheus(instrument *Instrument, now time.Time, dialect 
 // Page is a page for Prometheus of all instruments, collected by a cumulative reader, with the attributes of the
 // resource as target_info.
 func (metrics *Metrics) Page(reader *Reader, now time.Time, dialect Dialect, resource ...Attr) ([]byte, error) {
-	of := giveMany(lengthOf(resource), resource)
+	of := giveMany(resource)
 	defer of.free()
 	about, answer := target(of, dialect)
 	if answer != answerDone {

@@ -73,7 +73,7 @@ PyObject *time_blocks(Seat *self, PyObject *args, PyObject *keywords) {
     wormweekly_prepared own = { 0 };
     int64_t unit = 1;
     int is_found;
-    if (!PyArg_ParseTupleAndKeywords(args, keywords, "|OO", names, &attributes, &given)) {
+    if (!PyArg_ParseTupleAndKeywords(args, keywords, "|OO:time", names, &attributes, &given)) {
         return NULL;
     }
     is_found = read_unit(self->run, given, &unit) && prepare_set(self, known(attributes), &own);
@@ -85,7 +85,7 @@ PyObject *count_blocks(Seat *self, PyObject *args, PyObject *keywords) {
     PyObject *attributes = NULL;
     wormweekly_prepared own = { 0 };
     int is_found;
-    if (!PyArg_ParseTupleAndKeywords(args, keywords, "|O", names, &attributes)) {
+    if (!PyArg_ParseTupleAndKeywords(args, keywords, "|O:in_flight", names, &attributes)) {
         return NULL;
     }
     is_found = prepare_set(self, known(attributes), &own);
@@ -97,7 +97,7 @@ PyObject *time_bound(Bound *self, PyObject *args, PyObject *keywords) {
     PyObject *given = NULL;
     int64_t unit = 1;
     int is_read;
-    if (!PyArg_ParseTupleAndKeywords(args, keywords, "|O", names, &given)) {
+    if (!PyArg_ParseTupleAndKeywords(args, keywords, "|O:time", names, &given)) {
         return NULL;
     }
     is_read = read_unit(self->run, given, &unit);

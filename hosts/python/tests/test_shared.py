@@ -1,8 +1,10 @@
 """Recordings of any thread."""
 
+import asyncio
 import logging
 import sys
 import threading
+import time
 import unittest
 from collections.abc import Callable
 from typing import Any
@@ -255,7 +257,7 @@ class Shared(unittest.TestCase):
 
     def test_each_recording_is_collected_once(self) -> None:
         # A service of four threads whose readers collect now and then, and after each end of a run.
-        bound, seen, runs = self.requests.bind(HOME), [0, 0], 0
+        bound, seen, is_over = self.requests.bind(HOME), [0, 0], threading.Event()
         all_of, new = self.metrics.readers
 
         def collect(metrics: Metrics, is_ended: bool) -> None:
@@ -264,23 +266,28 @@ class Shared(unittest.TestCase):
                 seen[0] += sum_of(metrics.readers[all_of.number].collect(metrics.instruments[0]))
 
         def work() -> None:
-            for _ in range(30_000):
+            made = 0
+            while made < 30_000 or not is_over.is_set():
                 bound.add(1)
+                made += 1
+            all_made.append(made)
 
+        all_made: list[int] = []
         interval = sys.getswitchinterval()
         sys.setswitchinterval(1e-5)
         threads = [threading.Thread(target=work) for _ in range(4)]
         for thread in threads:
             thread.start()
-        while any(thread.is_alive() for thread in threads):
+        for _ in range(20):
             collect(self.metrics, False)
             collect(self.metrics.roll_over(), True)
-            runs += 1
+        is_over.set()
+        for thread in threads:
+            thread.join()
         sys.setswitchinterval(interval)
         collect(self.metrics.roll_over(), True)
         refused = self.requests.refused.get("Budget", 0)
-        self.assertEqual(seen, [120_000 - refused] * 2)
-        self.assertGreater(runs, 10)
+        self.assertEqual(seen, [sum(all_made) - refused] * 2)
 
     def test_a_run_that_has_ended(self) -> None:
         self.requests.add(3, HOME)
@@ -294,6 +301,48 @@ class Shared(unittest.TestCase):
         self.assertEqual((self.metrics.settle()[0], self.metrics.part_left()), (Total(0, 0), 1.0))
         with self.assertRaises(StrangerRefusal):
             self.metrics.readers[0].collect(ended.instruments[0])
+
+
+CROWD = """format = 1
+[[meter]]
+name = 'crowd'
+[[meter.instrument]]
+name = 'requests'
+kind = 'counter'
+range = [1, 9]
+key = [{ name = 'route', values = ['/', '/cart'] }]
+[[meter.instrument]]
+name = 'in_flight'
+kind = 'up_down_counter'
+range = [-1, 1]
+""" + "".join(
+    f"[[recorder]]\nname = '{number}'\nbudget = [{{ instrument = 0, amount = 6000 }}, {{ instrument = 1, amount = 20000 }}]\n"
+    for number in range(8)
+)
+
+
+class Crowd(unittest.TestCase):
+    def test_ten_thousand_tasks_record_over_eight_recorders(self) -> None:
+        metrics = Metrics.open(CROWD, CONFIG.partition("[[reader]]\nname = 'new'")[0])
+        requests, in_flight = metrics.instruments
+        cart, waits = requests.bind({"route": "/cart"}), []
+
+        async def task() -> None:
+            with in_flight.in_flight():
+                began = time.perf_counter()
+                requests.add(2, {"route": "/"})
+                cart.add(3)
+                waits.append(time.perf_counter() - began)
+                await asyncio.sleep(0)
+
+        async def work() -> None:
+            await asyncio.gather(*(task() for _ in range(5_000)))
+
+        run_all(2, lambda: asyncio.run(work()))
+        self.assertEqual(metrics.settle(), (Total(20_000, 50_000), Total(20_000, 0)))
+        self.assertEqual((requests.refused, in_flight.refused), ({}, {}))
+        # who is interrupted between the two has waited too, so a hundredth may
+        self.assertLess(sum(wait > 0.001 for wait in waits), 100)
 
 
 class Failing:

@@ -1,5 +1,6 @@
-// A thousand goroutines record at once over eight recorders: how long a recording waits, beside a mutex around a map, since what
-// holds a lock is interrupted by other programs too. It fails where the totals are others.
+// A thousand goroutines record at once over eight recorders. It fails where a total is another, or where more recordings wait for a
+// millisecond than calls do at a mutex around a map, by a hundredth of all, in each of five rounds: on a machine that has other
+// work, whoever holds a lock is interrupted.
 package main
 
 import (
@@ -16,6 +17,7 @@ const (
 	goroutines = 1000
 	recordings = 200 // of each, half of them with attributes at the call
 	recorders  = 8
+	rounds     = 5
 )
 
 const catalogue = `format = 1
@@ -72,7 +74,8 @@ func longestOf(mutex *sync.Mutex, longest *time.Duration) time.Duration {
 	return *longest
 }
 
-func main() {
+// The waits of recordings, half of them with attributes at the call.
+func recorded() (longest time.Duration, long int) {
 	metrics, err := open()
 	if err != nil {
 		log.Fatal(err)
@@ -82,7 +85,7 @@ func main() {
 	if err != nil {
 		log.Fatal(err)
 	}
-	longest, long := waits(func(at int) {
+	longest, long = waits(func(at int) {
 		if at%2 == 0 {
 			took.Record(1, route)
 		} else {
@@ -93,13 +96,30 @@ func main() {
 	if err != nil || totals[0].Count != goroutines*recordings {
 		log.Fatal(err, totals)
 	}
+	return longest, long
+}
+
+// Those at a mutex around a map.
+func mapped() (longest time.Duration, long int) {
 	var mutex sync.Mutex
 	counts := map[string]int{}
-	otherLongest, otherLong := waits(func(int) {
+	return waits(func(int) {
 		mutex.Lock()
 		counts["/"]++
 		mutex.Unlock()
 	})
-	fmt.Printf("%d recordings of %d goroutines over %d recorders: longest %v, %d above 1ms; in a map: %v, %d\n",
-		totals[0].Count, goroutines, recorders, longest, long, otherLongest, otherLong)
+}
+
+func main() {
+	const all = goroutines * recordings
+	for round := 0; round < rounds; round++ {
+		longest, long := recorded()
+		otherLongest, otherLong := mapped()
+		fmt.Printf("%d recordings of %d goroutines over %d recorders: longest %v, %d above 1ms; at a mutex: %v, %d\n",
+			all, goroutines, recorders, longest, long, otherLongest, otherLong)
+		if long <= otherLong+all/100 {
+			return
+		}
+	}
+	log.Fatal("recordings wait for longer than at a mutex around a map")
 }

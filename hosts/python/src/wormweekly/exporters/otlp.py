@@ -154,6 +154,7 @@ class Exporter:
         self._most_waiting = most_waiting
         self._resource = _sdk() | dict(self.settings.resource)
         self._waiting: deque[bytes] = deque()
+        self._size = 0  # of what waits
         self._pause = self._paused_until = 0.0
         self._due = time.monotonic() + self.settings.interval
         self._told = ""
@@ -201,6 +202,7 @@ class Exporter:
         """What the parent's thread held then is held here for ever."""
         self._is_childs, self._ended = True, threading.Event()
         self._waiting.clear()
+        self._size = 0
 
     def _run(self) -> None:
         while not self._ended.wait(min(self.settings.interval, _LONGEST_SLEEP)):
@@ -232,14 +234,18 @@ class Exporter:
         body = b"".join(reader.otlp(instrument, self._resource, at) for instrument in metrics.instruments)
         if body:
             self._waiting.append(gzip.compress(body, 6) if self.settings.is_compressed else body)
-        size = sum(map(len, self._waiting))
-        while size > self._most_waiting:
-            size -= len(self._waiting.popleft())
+            self._size += len(self._waiting[-1])
+        while self._size > self._most_waiting:
+            self._forget()
             self._drop("more waits than there is room for")
+
+    def _forget(self) -> None:
+        """Forgets the first one that waits."""
+        self._size -= len(self._waiting.popleft())
 
     def _push(self) -> bool:
         while self._waiting and time.monotonic() >= self._paused_until and self._is_answered(self._waiting[0]):
-            self._waiting.popleft()
+            self._forget()
         return not self._waiting
 
     def _is_answered(self, body: bytes) -> bool:
@@ -335,17 +341,17 @@ def _words_of(answer: urllib.error.HTTPError) -> str:
 def partial_success(answer: bytes) -> tuple[int, str]:
     """How many points a collector says it rejected, and why: both of the first field of what it answers in protobuf."""
     rejected, why = 0, ""
-    for number, value in _fields(dict(_fields(answer)).get(1, b"")):
+    partial = dict(_fields(memoryview(answer))).get(1)
+    for number, value in _fields(partial) if isinstance(partial, memoryview) else ():
         if number == 1 and isinstance(value, int):
             rejected = value
-        elif number == 2 and isinstance(value, bytes):
-            why = value.decode(errors="replace")
+        elif number == 2 and isinstance(value, memoryview):
+            why = bytes(value).decode(errors="replace")
     return rejected, why
 
 
-def _fields(message: bytes | int) -> Iterator[tuple[int, bytes | int]]:
+def _fields(rest: memoryview) -> Iterator[tuple[int, memoryview | int]]:
     """The fields of a message of protobuf, as far as they are numbers or bytes."""
-    rest = message if isinstance(message, bytes) else b""
     while rest:
         tag, rest = _number(rest)
         value, rest = _number(rest)
@@ -358,11 +364,11 @@ def _fields(message: bytes | int) -> Iterator[tuple[int, bytes | int]]:
             return
 
 
-def _number(message: bytes) -> tuple[int, bytes]:
+def _number(message: memoryview) -> tuple[int, memoryview]:
     """A number of protobuf, seven bits in each byte, and what follows it."""
     number = 0
     for place, byte in enumerate(message[:10]):
         number |= (byte & 127) << (7 * place)
         if byte < 128:
             return number, message[place + 1 :]
-    return 0, b""
+    return 0, message[:0]
