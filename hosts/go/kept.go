@@ -197,11 +197,19 @@ func (recorder *Recorder) makes(on *Instrument) uint32 {
 	return answer
 }
 
-// Makes what all recorders keep of an instrument.
-func (instrument *Instrument) makesAll() uint32 {
-	if !instrument.keeping.isKept {
-		return answerDone
+// Makes what all recorders keep of an instrument: all that was recorded before. Meanwhile a cell that is full goes over from the
+// list of one recorder to that of another, which may have been looked at before, but no cell goes over again.
+func (instrument *Instrument) makesAll() (answer uint32) {
+	if instrument.keeping.isKept {
+		answer = instrument.makesEach()
 	}
+	if instrument.keeping.isJoined && answer == answerDone {
+		answer = instrument.makesEach()
+	}
+	return answer
+}
+
+func (instrument *Instrument) makesEach() uint32 {
 	for _, recorder := range instrument.run.recorders {
 		recorder.mutex.Lock()
 		instrument.mutex.Lock()

@@ -4,6 +4,7 @@ import (
 	"errors"
 	"fmt"
 	"strings"
+	"sync"
 	"sync/atomic"
 	"testing"
 	"time"
@@ -214,4 +215,33 @@ func TestTheLastValueOfAGaugeIsTheLast(t *testing.T) {
 	}
 	batch := must(metrics.Readers[0].Collect(metrics.Instruments[3], at(1)))(t)
 	equal(t, batch.Streams[0].Points[0].Value, Last(999))
+}
+
+// While others fill the cell that it is added to, so that it goes over from recorder to recorder.
+func TestACollectionHasAllThatWasRecordedBefore(t *testing.T) {
+	metrics := openedKept(t, 4, 1_000_000)
+	bound := boundsOf(t, metrics)[0][0]
+	var done, isOver atomic.Int64
+	var working sync.WaitGroup
+	for number := 0; number < 3; number++ {
+		working.Add(1)
+		go func() {
+			defer working.Done()
+			for isOver.Load() == 0 {
+				if bound.TryAdd(1) == nil {
+					done.Add(1)
+				}
+			}
+		}()
+	}
+	for made := int64(1); made <= 2_000; made++ {
+		equal(t, bound.TryAdd(99), error(nil))
+		before := done.Load() + 99*made
+		batch := must(metrics.Readers[0].Collect(metrics.Instruments[0], time.Now()))(t)
+		if got := int64(batch.Streams[0].Points[0].Value.(Sum)); got < before {
+			t.Fatal(got, "and not", before)
+		}
+	}
+	isOver.Store(1)
+	working.Wait()
 }
