@@ -1,6 +1,6 @@
-/* Makes every call of the header: done, refused, with null handles and those of another kind, with too little room, with bytes that are no text
- * and with numbers of nothing. The first call that answers or writes something else than its row says is told with its
- * line, and the status is then 1.
+/* Makes every call of the header: done, refused, with null handles and those of another kind, with too little room,
+ * with bytes that are no text and with numbers of nothing. The first call that answers or writes something else than
+ * its row says is told with its line, and the status is then 1.
  */
 #include "wormweekly.h"
 
@@ -588,8 +588,8 @@ static const char ORDERS_TEXT[] =
 
 static const char WARNINGS[] = "warning Unfit view=0 instrument=2\n";
 
-/* The same batch in the OpenTelemetry protocol, with the resource attribute {"service.name" = "shop"}: the bytes of a request,
- * as digits of 16, and its line of JSON. */
+/* The same batch in the OpenTelemetry protocol, with the resource attribute {"service.name" = "shop"}: the bytes of a
+ * request, as digits of 16, and its line of JSON. */
 static const char ORDERS_REQUEST[] =
     "0ad5010a180a160a0c736572766963652e6e616d6512060a0473686f7012b8010a090a0473686f701201321294010a066f72"
     "64657273120d776861742077617320706169641a034555523a760a38110300000000000000190900000000000000310f0000"
@@ -1019,7 +1019,8 @@ static const struct row FREED_ROWS[] = {
     { CALL(settle), ALL_RECORDERS },
 };
 
-/* Two runs of one plan since one time: what is of one is a stranger to the other. Then the first goes over into the next. */
+/* Two runs of one plan since one time: what is of one is a stranger to the other. Then the first goes over into the
+   next. */
 static const struct row TWIN_ROWS[] = {
     { CALL(open), .catalogue = CATALOGUE, .config = CONFIG, ALL_HANDLES,
       .numbers = { INSTRUMENTS, RECORDERS, READERS } },
@@ -1171,7 +1172,8 @@ int main(void) {
     check(ROWS(ARTICLES_ROWS));
     check(ROWS(QUEUE_ROWS));
     check(ROWS(TARGET_ROWS));
-    /* By three and by four places, a handle of each kind stands where one of each other kind is asked for, none where its own. */
+    /* By three and by four places, a handle of each kind stands where one of each other kind is asked for, none where
+       its own. */
     for (size_t places = 3; places <= 4; places++) {
         turn(places);
         check_freed(ROWS(ORDERS_ROWS));

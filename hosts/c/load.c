@@ -1,5 +1,5 @@
-/* A server for tools/load, a thread for each connection: "load measured", or "load plain". Its recorders are shared by threads, each
- * under a mutex, as each instrument is.
+/* A server for tools/load, a thread for each connection: "load measured", or "load plain". Its recorders are shared by
+ * threads, each under a mutex, as each instrument is.
  */
 #define _POSIX_C_SOURCE 200809L
 #include "wormweekly.h"

@@ -1,5 +1,5 @@
-/* The start of a run: each run of a process has a number of its own, so that no two mix. This is all of the library that is not
- * proved: a number is drawn, and the proved call opens the run of that number.
+/* The start of a run: each run of a process has a number of its own, so that no two mix. This and calls.c are all of
+ * the library that is not proved: a number is drawn, and the proved call opens the run of that number.
  */
 #include "wormweekly.h"
 

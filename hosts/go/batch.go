@@ -54,8 +54,8 @@ type Buckets struct {
 	Least, Greatest int64
 }
 
-// A Total is what an instrument comes to: how many recordings were accepted, those that Bound added up too, and the sum of their
-// values.
+// A Total is what an instrument comes to: how many recordings were accepted, those that Bound added up too, and the sum
+// of their values.
 type Total struct {
 	Count uint64
 	Sum   *big.Int

@@ -2,8 +2,8 @@ package wormweekly
 
 import "sync/atomic"
 
-// What is kept of an instrument by a recorder: recordings that it is still to make, so that one call of C makes many. There are
-// never more than the recorder has left, so that each is made. It is looked at while the recorder is held.
+// What is kept of an instrument by a recorder: recordings that it is still to make, so that one call of C makes many.
+// There are never more than the recorder has left, so that each is made. It is looked at while the recorder is held.
 type kept struct {
 	list   [mostKept]prepared
 	cells  [mostKept]*cell // where the value is, of those that are still added to
@@ -39,8 +39,9 @@ func (own *kept) take() {
 // Takes out the first ones, which were made.
 func (own *kept) drop(made int) { own.length = copy(own.list[:], own.list[made:own.length]) }
 
-// A cell has recordings of a bound set that are added up, to be made as one: in its upper bits how many, in the others their
-// sum; 0 where there are none. Then it is in no list, else in that of one recorder. Any goroutine adds to one that has some.
+// A cell has recordings of a bound set that are added up, to be made as one: in its upper bits how many, in the others
+// their sum; 0 where there are none. Then it is in no list, else in that of one recorder. Any goroutine adds to one
+// that has some.
 type cell struct {
 	atomic.Uint64
 	_ [56]byte // no two share a line of cache
@@ -64,7 +65,8 @@ type keeping struct {
 	least, greatest  int64
 }
 
-// No recording of an instrument is kept where the last value counts. Where all streams are sums, those of a set are added up.
+// No recording of an instrument is kept where the last value counts. Where all streams are sums, those of a set are
+// added up.
 func keepingOf(own *handles, instrument int, aggregations []int) keeping {
 	made := keeping{isKept: true, isJoined: true}
 	made.least, made.greatest = rangeOf(own, instrument)
@@ -99,8 +101,8 @@ func (bound *Bound) isAdded(value int64) bool {
 	return how.isJoined && how.has(value) && isSmall(value) && how.join(bound.cell, value)
 }
 
-// Keeps a recording, by a recorder that nobody uses and that has budget left, or answers why its attributes are refused. False
-// where it is neither.
+// Keeps a recording, by a recorder that nobody uses and that has budget left, or answers why its attributes are
+// refused. False where it is neither.
 func (instrument *Instrument) keep(what *recording, in *cell) (answer uint32, isDone bool) {
 	if how := &instrument.keeping; !how.isKept || what.isCountedIn || !how.has(what.value) {
 		return answerDone, false
@@ -173,7 +175,8 @@ func (recorder *Recorder) hasPlace(on *Instrument, own *kept) bool {
 	return recorder.handOver(on, own) == answerDone && own.left > 0
 }
 
-// Makes what is kept of an instrument, and looks at what is left. Both are held. What is refused, for want of memory alone, stays.
+// Makes what is kept of an instrument, and looks at what is left. Both are held. What is refused, for want of memory
+// alone, stays.
 func (recorder *Recorder) handOver(on *Instrument, own *kept) uint32 {
 	own.take()
 	answer, made, left := handOver(on.run.handles, on.number, recorder.number, own.list[:], own.length)
@@ -182,8 +185,8 @@ func (recorder *Recorder) handOver(on *Instrument, own *kept) uint32 {
 	return answer
 }
 
-// Makes what is kept of an instrument, before something else is done by the recorder. Both are held. What is left is another
-// number after it.
+// Makes what is kept of an instrument, before something else is done by the recorder. Both are held. What is left is
+// another number after it.
 func (recorder *Recorder) makes(on *Instrument) uint32 {
 	own := recorder.kept[on.number]
 	if own == nil {
@@ -197,8 +200,8 @@ func (recorder *Recorder) makes(on *Instrument) uint32 {
 	return answer
 }
 
-// Makes what all recorders keep of an instrument: all that was recorded before. Meanwhile a cell that is full goes over from the
-// list of one recorder to that of another, which may have been looked at before, but no cell goes over again.
+// Makes what all recorders keep of an instrument: all that was recorded before. Meanwhile a cell that is full goes over
+// from the list of one recorder to that of another, which may have been looked at before, but no cell goes over again.
 func (instrument *Instrument) makesAll() (answer uint32) {
 	if instrument.keeping.isKept {
 		answer = instrument.makesEach()

@@ -99,8 +99,8 @@ func valueOf(number, seed int) int64 {
 	return []int64{int64(seed%40) - 20, 1, int64(seed % 200)}[number]
 }
 
-// Records in many goroutines, while runs are collected and end and budgets run out, and compares what was accepted with what is
-// settled, and with what a delta reader is told in all.
+// Records in many goroutines, while runs are collected and end and budgets run out, and compares what was accepted with
+// what is settled, and with what a delta reader is told in all.
 func TestWhatIsKeptIsCountedToTheLastOne(t *testing.T) {
 	metrics := openedKept(t, 4, 200)
 	bounds := boundsOf(t, metrics)

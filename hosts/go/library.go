@@ -245,8 +245,8 @@ type given struct {
 	isOwned    bool
 }
 
-// The keys are compared with one another, so no more than 65 are given. Of so many a key is unknown or stands twice, a resource
-// has fewer, and what follows could not mend that.
+// The keys are compared with one another, so no more than 65 are given. Of so many a key is unknown or stands twice, a
+// resource has fewer, and what follows could not mend that.
 func most(attributes []Attr) []Attr {
 	return attributes[:min(len(attributes), C.MOST_ATTRIBUTES)]
 }

@@ -23,8 +23,8 @@ type Metrics struct {
 	run *run
 }
 
-// A run owns the handles, which are looked at while a recorder, an instrument or a reader is held, and changed while all are.
-// Recorders are held before an instrument, in their order.
+// A run owns the handles, which are looked at while a recorder, an instrument or a reader is held, and changed while
+// all are. Recorders are held before an instrument, in their order.
 type run struct {
 	handles     *handles
 	number      uint64 // how many runs ended in its place
@@ -71,9 +71,9 @@ func Open(catalogue, config string, options ...Option) (*Metrics, error) {
 	return newMetrics(&run{handles: own}, warnings(own)), nil
 }
 
-// Lint answers the remarks that "wormweekly lint" has on a catalogue and a config, a line each with its place: what looks like
-// a mistake, also that the two are not safe together. At most a hundred are told, and in one more line how many there are
-// beside these. Where the texts are at fault, the error wraps ErrFault and tells the first fault.
+// Lint answers the remarks that "wormweekly lint" has on a catalogue and a config, a line each with its place: what
+// looks like a mistake, also that the two are not safe together. At most a hundred are told, and in one more line how
+// many there are beside these. Where the texts are at fault, the error wraps ErrFault and tells the first fault.
 func Lint(catalogue, config string) ([]string, error) {
 	text, answer := lint(catalogue, config)
 	switch {
@@ -156,8 +156,8 @@ func (metrics *Metrics) Close() error {
 	return nil
 }
 
-// PartLeft is how much is left of all that may be recorded on an instrument, budgets and spare: the least part that any has, from
-// 1 to 0. Roll over in time: past it, recordings are refused.
+// PartLeft is how much is left of all that may be recorded on an instrument, budgets and spare: the least part that any
+// has, from 1 to 0. Roll over in time: past it, recordings are refused.
 func (metrics *Metrics) PartLeft() (float64, error) {
 	least := 1.0
 	for _, instrument := range metrics.run.instruments {
@@ -187,17 +187,17 @@ func (instrument *Instrument) partLeft() (float64, error) {
 	return left / most, err
 }
 
-// Ended is a run that has ended, with the total of each instrument, in order. Its instruments are closed; its readers collect
-// them as they would have.
+// Ended is a run that has ended, with the total of each instrument, in order. Its instruments are closed; its readers
+// collect them as they would have.
 type Ended struct {
 	*Metrics
 	Totals []Total
 }
 
 // RollOver ends the run, and begins the next one of the same plan in its place: with budgets as declared, nothing
-// counted, and all instruments open. Seats and bound sets go on in it, and a recording waits no longer than it takes to settle.
-// The run that ended is answered: let each of its readers collect a last time, so that nothing is lost. Refused, all is as
-// before.
+// counted, and all instruments open. Seats and bound sets go on in it, and a recording waits no longer than it takes to
+// settle. The run that ended is answered: let each of its readers collect a last time, so that nothing is lost.
+// Refused, all is as before.
 func (metrics *Metrics) RollOver(start time.Time) (*Ended, error) {
 	own := metrics.run
 	for _, reader := range own.readers {
@@ -296,13 +296,14 @@ func (own *run) settle() (totals []Total, joined []uint64, err error) {
 
 // An Instrument is recorded on by any goroutine.
 //
-// Recordings are kept in memory of Go, and made many at a time: before a collection, a settlement, a budget that is asked for and
-// a roll-over, and when a recorder has 64. Each is reserved of a budget, so that each is made. Of a gauge nothing is kept.
+// Recordings are kept in memory of Go, and made many at a time: before a collection, a settlement, a budget that is
+// asked for and a roll-over, and when a recorder has 64. Each is reserved of a budget, so that each is made. Of a gauge
+// nothing is kept.
 //
-// A recording takes a recorder that no other goroutine is using. One whose budget is spent hands on to the next, and the last
-// one asks the spare budget; only then is a recording refused. What is refused, for whatever reason, changes nothing but what
-// Refused answers, and is told once for each reason to what Metrics.OnRefusal was given. Calls that begin with Try answer the
-// error too.
+// A recording takes a recorder that no other goroutine is using. One whose budget is spent hands on to the next, and
+// the last one asks the spare budget; only then is a recording refused. What is refused, for whatever reason, changes
+// nothing but what Refused answers, and is told once for each reason to what Metrics.OnRefusal was given. Calls that
+// begin with Try answer the error too.
 type Instrument struct {
 	run      *run
 	number   int
@@ -335,16 +336,17 @@ func (instrument *Instrument) Number() int { return instrument.number }
 // declare a wider range.
 func (instrument *Instrument) Clamped() uint64 { return instrument.clamped.Load() }
 
-// A Bound set of attributes was looked up once, for recordings on an instrument. Where all streams of that are sums, recordings of
-// one set are added up in memory of Go as long as the sum is in the range, and make one recording, which takes one of the budget:
-// declare a range for sums. Total.Count has each of them.
+// A Bound set of attributes was looked up once, for recordings on an instrument. Where all streams of that are sums,
+// recordings of one set are added up in memory of Go as long as the sum is in the range, and make one recording, which
+// takes one of the budget: declare a range for sums. Total.Count has each of them.
 type Bound struct {
 	instrument *Instrument
 	set        setKey
 	cell       *cell // of what is added up
 }
 
-// Bind looks up a set of attributes, for recordings by Bound.Add or by Recorder.Add. With an error comes a Bound that records nothing.
+// Bind looks up a set of attributes, for recordings by Bound.Add or by Recorder.Add. With an error comes a Bound that
+// records nothing.
 func (instrument *Instrument) Bind(attributes ...Attr) (Bound, error) {
 	own := instrument.run
 	if len(own.recorders) == 0 {
@@ -359,8 +361,8 @@ func (instrument *Instrument) Bind(attributes ...Attr) (Bound, error) {
 	return Bound{instrument, set, new(cell)}, nil
 }
 
-// KnownOr answers the attribute, where the instrument declares its value for its key; else the key with the other value, and
-// Replaced counts it. A recording tells what else is wrong.
+// KnownOr answers the attribute, where the instrument declares its value for its key; else the key with the other
+// value, and Replaced counts it. A recording tells what else is wrong.
 func (instrument *Instrument) KnownOr(attribute, other Attr) Attr {
 	if instrument.answerTo(attribute) != answerUnknownValue {
 		return attribute
@@ -469,8 +471,8 @@ func (reader *Reader) OTLP(instrument *Instrument, now time.Time, resource ...At
 	return reader.otlp(instrument, now, resource, 0)
 }
 
-// OTLPLine is the same as a line of JSON, which a collector takes as application/json. Each line is a post of its own: of
-// several, a collector reads the first alone.
+// OTLPLine is the same as a line of JSON, which a collector takes as application/json. Each line is a post of its own:
+// of several, a collector reads the first alone.
 func (reader *Reader) OTLPLine(instrument *Instrument, now time.Time, resource ...Attr) ([]byte, error) {
 	return reader.otlp(instrument, now, resource, 1)
 }

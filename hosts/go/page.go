@@ -19,8 +19,8 @@ const (
 	OpenMetricsCreated
 )
 
-// Accepted is the dialect for whoever asks with this header Accept: OpenMetrics where it is named, with no less weight than plain
-// text.
+// Accepted is the dialect for whoever asks with this header Accept: OpenMetrics where it is named, with no less weight
+// than plain text.
 func Accepted(accept string) Dialect {
 	var openMetrics, text float64
 	for _, one := range strings.Split(strings.ToLower(accept), ",") {

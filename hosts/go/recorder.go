@@ -58,7 +58,8 @@ func (recorder *Recorder) Add(bound Bound, value int64) error {
 }
 
 // AddDuration records how long something took, in whole units, as time.Millisecond. What is above the range of the
-// instrument is recorded as its greatest value, and Instrument.Clamped counts it. Where it is refused, nothing is counted.
+// instrument is recorded as its greatest value, and Instrument.Clamped counts it. Where it is refused, nothing is
+// counted.
 func (recorder *Recorder) AddDuration(bound Bound, took, unit time.Duration) error {
 	if unit <= 0 {
 		return ErrUnit
@@ -112,9 +113,9 @@ func (recorder *Recorder) AddAll(items []Item) error {
 	return &ListError{made, errorOn(on, answer)}
 }
 
-// InFlight counts some work in, on an up-down counter, and answers what counts it out again. Where fewer than two recordings
-// are left for it, beside those that count out what is under way, the error wraps ErrBudget and nothing is counted: what is
-// counted in can be counted out, unless something else records on the instrument by this recorder.
+// InFlight counts some work in, on an up-down counter, and answers what counts it out again. Where fewer than two
+// recordings are left for it, beside those that count out what is under way, the error wraps ErrBudget and nothing is
+// counted: what is counted in can be counted out, unless something else records on the instrument by this recorder.
 func (recorder *Recorder) InFlight(bound Bound) (out func() error, err error) {
 	on := bound.instrument
 	nothing := func() error { return nil }
@@ -178,8 +179,8 @@ func (recorder *Recorder) takes(on *Instrument) error {
 	return nil
 }
 
-// Takes the recorder for a call of its own. It waits for the run and for a recording by an instrument, and not for another
-// goroutine that has the recorder.
+// Takes the recorder for a call of its own. It waits for the run and for a recording by an instrument, and not for
+// another goroutine that has the recorder.
 func (recorder *Recorder) begin(on *Instrument) error {
 	if err := recorder.takes(on); err != nil {
 		return err

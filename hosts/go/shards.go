@@ -24,8 +24,8 @@ func (own *run) first() int {
 	return at
 }
 
-// A recording that any recorder may make: of attributes, or of a set that was looked up. What is counted in gets the recorder
-// and the run that it is counted in.
+// A recording that any recorder may make: of attributes, or of a set that was looked up. What is counted in gets the
+// recorder and the run that it is counted in.
 type recording struct {
 	attributes  []Attr
 	set         setKey
@@ -132,8 +132,9 @@ func (own *run) take() *Recorder {
 	return own.recorders[first]
 }
 
-// Makes a recording, or keeps it, that of a bound set in its cell: with a recorder that is free and has budget left. Where all with budget are busy, it waits for
-// one of them, which takes as long as one recording; where none has budget left, one asks the spare budget.
+// Makes a recording, or keeps it, that of a bound set in its cell: with a recorder that is free and has budget left.
+// Where all with budget are busy, it waits for one of them, which takes as long as one recording; where none has budget
+// left, one asks the spare budget.
 func (instrument *Instrument) share(what *recording, in *cell) uint32 {
 	if len(instrument.run.recorders) == 0 {
 		return answerUnknownRecorder

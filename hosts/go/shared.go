@@ -26,8 +26,8 @@ func (own *refusals) count(refusal *Refusal, isTold bool) bool {
 	return isNew
 }
 
-// OnRefusal has each reason for which recordings on an instrument are refused told once, by the goroutine that meets it first.
-// It takes the place of what was to tell them before.
+// OnRefusal has each reason for which recordings on an instrument are refused told once, by the goroutine that meets it
+// first. It takes the place of what was to tell them before.
 func (metrics *Metrics) OnRefusal(tell func(on *Instrument, err error)) {
 	metrics.run.tell.Store(&tell)
 }
@@ -90,8 +90,8 @@ func (instrument *Instrument) TryAdd(value int64, attributes ...Attr) error {
 	return instrument.said(answer, &what)
 }
 
-// AddDuration records how long something took, in whole units, as time.Millisecond. What is above the range is recorded as its
-// greatest value, and Clamped counts it.
+// AddDuration records how long something took, in whole units, as time.Millisecond. What is above the range is recorded
+// as its greatest value, and Clamped counts it.
 func (instrument *Instrument) AddDuration(took, unit time.Duration, attributes ...Attr) {
 	instrument.addDuration(took, unit, &recording{attributes: attributes}, nil)
 }
@@ -113,9 +113,9 @@ func (instrument *Instrument) addDuration(took, unit time.Duration, what *record
 	}
 }
 
-// InFlight counts some work in, on an up-down counter, and answers what counts it out again. What could not be counted out is not
-// counted in: where fewer than two recordings are left for it, beside those that count out what is under way, it is refused
-// as ErrBudget. After RollOver it is counted out in no run.
+// InFlight counts some work in, on an up-down counter, and answers what counts it out again. What could not be counted
+// out is not counted in: where fewer than two recordings are left for it, beside those that count out what is under
+// way, it is refused as ErrBudget. After RollOver it is counted out in no run.
 func (instrument *Instrument) InFlight(attributes ...Attr) (out func()) {
 	bound, err := instrument.Bind(attributes...)
 	if err != nil {

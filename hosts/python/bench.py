@@ -2,8 +2,8 @@
 
     python bench.py [RECORDINGS]      how many each thread makes in a round; the best of five rounds is told
 
-All threads share an instrument, and those of the client its counter, as they do in a service; lists are made by a recorder of
-each thread.
+All threads share an instrument, and those of the client its counter, as they do in a service; lists are made by a
+recorder of each thread.
 """
 
 from __future__ import annotations

@@ -1,6 +1,6 @@
-"""Builds the package over the static library `libwormweekly.a`: in the folder that WORMWEEKLY_LIB names, with `../include` beside
-it, else in `lib` beside this folder (a copied distribution), else in `../out` (the repository, after `tools/hosts`). One build
-serves each Python from 3.10 on."""
+"""Builds the package over the static library `libwormweekly.a`: in the folder that WORMWEEKLY_LIB names, with
+`../include` beside it, else in `lib` beside this folder (a copied distribution), else in `../out` (the repository,
+after `tools/hosts`). One build serves each Python from 3.10 on."""
 
 import os
 from pathlib import Path

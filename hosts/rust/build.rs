@@ -1,5 +1,6 @@
-//! Links the static library `libwormweekly.a`. It is looked for in the folder that `WORMWEEKLY_LIB` names, and nowhere else
-//! where that is set; else in `lib` beside this crate (a copied distribution), else in `../out` (the repository, after `tools/hosts`).
+//! Links the static library `libwormweekly.a`. It is looked for in the folder that `WORMWEEKLY_LIB` names, and nowhere
+//! else where that is set; else in `lib` beside this crate (a copied distribution), else in `../out` (the repository,
+//! after `tools/hosts`).
 use std::env;
 use std::path::{Path, PathBuf};
 

@@ -1,6 +1,7 @@
 //go:build peers
 
-// Package bench compares a recording with three attributes to those of OpenTelemetry's SDK and of Prometheus' client, in one run.
+// Package bench compares a recording with three attributes to those of OpenTelemetry's SDK and of Prometheus' client,
+// in one run.
 // `tools/bindings --bench` runs it where these are installed (golang-opentelemetry-otel-dev,
 // golang-github-prometheus-client-golang-dev).
 package bench

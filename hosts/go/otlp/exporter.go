@@ -3,10 +3,10 @@
 //	exporter, err := otlp.New(metrics, reader)
 //	defer exporter.Shutdown(ctx)
 //
-// Where nothing else is said, the environment says where to. Each collection is one post. What a collector did not take waits,
-// in order, and is posted again after the pause that it asks for, else after pauses that grow; what it refuses for good is
-// dropped, counted and told. The exporter rolls over before a budget is spent. A post that timed out may have arrived, so that
-// a delta window may arrive twice.
+// Where nothing else is said, the environment says where to. Each collection is one post. What a collector did not take
+// waits, in order, and is posted again after the pause that it asks for, else after pauses that grow; what it refuses
+// for good is dropped, counted and told. The exporter rolls over before a budget is spent. A post that timed out may
+// have arrived, so that a delta window may arrive twice.
 package otlp
 
 import (
@@ -36,8 +36,8 @@ const (
 // ErrWaiting says that a collector has not answered for all collections yet.
 var ErrWaiting = errors.New("otlp: a collector has not answered for all collections")
 
-// Counts are what became of collections: how many were taken; how many were refused for good, or were the oldest of more than
-// there is room for; how many wait; and how many points a collector says it did not take.
+// Counts are what became of collections: how many were taken; how many were refused for good, or were the oldest of
+// more than there is room for; how many wait; and how many points a collector says it did not take.
 type Counts struct{ Posted, Dropped, Waiting, Rejected uint64 }
 
 // An Option says more of how metrics are pushed.
@@ -48,8 +48,8 @@ func With(settings Settings) Option {
 	return func(own *Exporter) { own.settings, own.isSet = settings, true }
 }
 
-// RollOverBelow has the metrics roll over where less than this part of a budget is left. What ended is given to a call, so that
-// other readers collect it. If it is not said, they roll over below 0.5 where they have no other reader.
+// RollOverBelow has the metrics roll over where less than this part of a budget is left. What ended is given to a call,
+// so that other readers collect it. If it is not said, they roll over below 0.5 where they have no other reader.
 func RollOverBelow(part float64, ended func(*wormweekly.Ended)) Option {
 	return func(own *Exporter) { own.below, own.ended = part, ended }
 }
@@ -78,7 +78,7 @@ type Exporter struct {
 	stopped  chan struct{}
 	once     sync.Once
 
-	turn        sync.Mutex // held while it collects and posts
+	turn        chan struct{} // empty while it collects and posts
 	due         time.Time
 	pausedUntil time.Time
 	pause       time.Duration
@@ -94,7 +94,8 @@ type Exporter struct {
 func New(metrics *wormweekly.Metrics, reader *wormweekly.Reader, options ...Option) (*Exporter, error) {
 	own := &Exporter{metrics: metrics, reader: reader.Number(), mostWaiting: 64 << 20,
 		tell: func(error) {}, ended: func(*wormweekly.Ended) {},
-		stop: make(chan struct{}), stopped: make(chan struct{})}
+		stop: make(chan struct{}), stopped: make(chan struct{}), turn: make(chan struct{}, 1)}
+	own.turn <- struct{}{}
 	if len(metrics.Readers) == 1 {
 		own.below = 0.5
 	}
@@ -145,14 +146,26 @@ func (own *Exporter) Counts() Counts {
 	return made
 }
 
-// Flush collects, and posts what waits unless a pause is asked for. Where not all was answered, the error is ErrWaiting.
+// Flush collects, and posts what waits unless a pause is asked for. Where not all was answered, the error is
+// ErrWaiting.
 func (own *Exporter) Flush(ctx context.Context) error {
-	own.turn.Lock()
-	defer own.turn.Unlock()
-	if err := own.collect(own.metrics, time.Now()); err != nil {
-		return err
+	return own.inTurn(ctx, func() error {
+		if err := own.collect(own.metrics, time.Now()); err != nil {
+			return err
+		}
+		return own.push(ctx)
+	})
+}
+
+// Waits for its turn, as long as the context allows.
+func (own *Exporter) inTurn(ctx context.Context, call func() error) error {
+	select {
+	case <-own.turn:
+	case <-ctx.Done():
+		return fmt.Errorf("%w: %v", ErrWaiting, ctx.Err())
 	}
-	return own.push(ctx)
+	defer func() { own.turn <- struct{}{} }()
+	return call()
 }
 
 // Shutdown ends it, collects a last time, and posts until all is answered or the context ends.
@@ -165,22 +178,21 @@ func (own *Exporter) Shutdown(ctx context.Context) error {
 	}
 	err := own.Flush(ctx)
 	for errors.Is(err, ErrWaiting) {
-		select {
-		case <-time.After(own.rest()):
-		case <-ctx.Done():
+		if ctx.Err() != nil {
 			return fmt.Errorf("%w: %v", ErrWaiting, ctx.Err())
 		}
-		own.turn.Lock()
-		err = own.push(ctx)
-		own.turn.Unlock()
+		err = own.inTurn(ctx, func() error { return own.pushAfterPause(ctx) })
 	}
 	return err
 }
 
-func (own *Exporter) rest() time.Duration {
-	own.turn.Lock()
-	defer own.turn.Unlock()
-	return time.Until(own.pausedUntil)
+func (own *Exporter) pushAfterPause(ctx context.Context) error {
+	select {
+	case <-time.After(time.Until(own.pausedUntil)):
+		return own.push(ctx)
+	case <-ctx.Done():
+		return fmt.Errorf("%w: %v", ErrWaiting, ctx.Err())
+	}
 }
 
 func (own *Exporter) run() {
@@ -202,11 +214,12 @@ func (own *Exporter) run() {
 }
 
 func (own *Exporter) takeTurn() {
-	own.turn.Lock()
-	defer own.turn.Unlock()
-	if err := own.turned(); err != nil && !errors.Is(err, ErrWaiting) {
-		own.say(err)
-	}
+	_ = own.inTurn(context.Background(), func() error {
+		if err := own.turned(); err != nil && !errors.Is(err, ErrWaiting) {
+			own.say(err)
+		}
+		return nil
+	})
 }
 
 func (own *Exporter) turned() error {
@@ -378,7 +391,8 @@ func (own *Exporter) wait(asked time.Duration) {
 	if own.pause > longestPause {
 		own.pause = longestPause
 	}
-	pause := own.pause/2 + time.Duration(own.random.Int63n(int64(own.pause/2))) // not all that were refused at once come again at once
+	// Not all that were refused at once come again at once.
+	pause := own.pause/2 + time.Duration(own.random.Int63n(int64(own.pause/2)))
 	if asked > pause {
 		pause = asked
 	}

@@ -90,9 +90,9 @@ func pushing(t *testing.T, settings Settings, answers ...answer) (*collector, *E
 // Collects, and posts after any pause.
 func (own *Exporter) again(t *testing.T) error {
 	t.Helper()
-	own.turn.Lock()
+	<-own.turn
 	own.pausedUntil = time.Time{}
-	own.turn.Unlock()
+	own.turn <- struct{}{}
 	return own.Flush(context.Background())
 }
 
@@ -162,7 +162,9 @@ func TestAPauseThatIsAskedFor(t *testing.T) {
 		_, exporter, orders := pushing(t, Settings{}, answer{429, map[string]string{"Retry-After": after}, ""})
 		orders.Add(2)
 		expect(t, exporter.again(t), ErrWaiting)
-		rest := exporter.rest()
+		<-exporter.turn
+		rest := time.Until(exporter.pausedUntil)
+		exporter.turn <- struct{}{}
 		expect(t, rest <= most && (most <= time.Second || rest > most-10*time.Second), true)
 	}
 }
@@ -185,6 +187,11 @@ func TestNobodyAnswers(t *testing.T) {
 	exporter.settings.Endpoint = "http://" + deaf.Addr().String()
 	orders.Add(2)
 	expect(t, exporter.again(t), ErrWaiting)
+	ended, end := context.WithCancel(context.Background())
+	end()
+	<-exporter.turn // as while another one posts
+	expect(t, errors.Is(exporter.Flush(ended), ErrWaiting), true)
+	exporter.turn <- struct{}{}
 	ctx, end := context.WithTimeout(context.Background(), 10*time.Millisecond)
 	defer end()
 	expect(t, errors.Is(exporter.Shutdown(ctx), ErrWaiting), true)

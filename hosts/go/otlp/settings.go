@@ -27,9 +27,9 @@ type Settings struct {
 // ErrSettings says that a variable of the environment says what it cannot.
 var ErrSettings = errors.New("otlp: the environment is at fault")
 
-// OfEnvironment reads OTEL_EXPORTER_OTLP_ENDPOINT, _HEADERS, _TIMEOUT and _COMPRESSION, before which the same names with
-// OTLP_METRICS go, OTEL_METRIC_EXPORT_INTERVAL, OTEL_RESOURCE_ATTRIBUTES and OTEL_SERVICE_NAME. An empty variable says
-// nothing. An error wraps ErrSettings and names the first variable at fault.
+// OfEnvironment reads OTEL_EXPORTER_OTLP_ENDPOINT, _HEADERS, _TIMEOUT and _COMPRESSION, before which the same names
+// with OTLP_METRICS go, OTEL_METRIC_EXPORT_INTERVAL, OTEL_RESOURCE_ATTRIBUTES and OTEL_SERVICE_NAME. An empty variable
+// says nothing. An error wraps ErrSettings and names the first variable at fault.
 func OfEnvironment() (Settings, error) {
 	var of environment
 	made := Settings{

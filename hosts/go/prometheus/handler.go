@@ -18,10 +18,10 @@ type Page struct {
 	ended    map[wormweekly.Dialect][]byte // pages of runs that ended, added up
 }
 
-// Handler answers each request with a page of all instruments, collected then, with the attributes of the resource. Where the metrics
-// have no other reader, it rolls them over before a budget is spent, as far as requests come in time; else hand Take the runs
-// that end. The error says why there is none: streams that can not stand in one, a resource that is not taken, or a reader of
-// another run.
+// Handler answers each request with a page of all instruments, collected then, with the attributes of the resource.
+// Where the metrics have no other reader, it rolls them over before a budget is spent, as far as requests come in time;
+// else hand Take the runs that end. The error says why there is none: streams that can not stand in one, a resource
+// that is not taken, or a reader of another run.
 func Handler(metrics *wormweekly.Metrics, reader *wormweekly.Reader, resource ...wormweekly.Attr) (*Page, error) {
 	if err := reader.Expose(); err != nil {
 		return nil, err

@@ -30,8 +30,9 @@ type measured struct {
 // An Option says more of how a handler is measured.
 type Option func(*measured)
 
-// Names are those of the instruments: of one that counts requests, "http.requests" if it is not said; of one that takes their time,
-// "http.duration"; and of an up-down counter of those under way, "http.in_flight". Where one is empty, nothing is recorded.
+// Names are those of the instruments: of one that counts requests, "http.requests" if it is not said; of one that takes
+// their time, "http.duration"; and of an up-down counter of those under way, "http.in_flight". Where one is empty,
+// nothing is recorded.
 func Names(requests, duration, inFlight string) Option {
 	return func(own *measured) { own.names = [3]string{requests, duration, inFlight} }
 }
@@ -42,9 +43,10 @@ func Route(of func(*http.Request) string) Option { return func(own *measured) { 
 // Unit is that of the duration, a millisecond if it is not said.
 func Unit(unit time.Duration) Option { return func(own *measured) { own.unit = unit } }
 
-// Measure measures a handler. A request counts when its answer ends, whatever becomes of it. The instruments are told of a
-// method, a route and a status as far as they declare the keys "method", "route" and "status"; what they do not declare of these
-// is recorded as "other", which the catalogue has to declare. The error says which instrument there is not.
+// Measure measures a handler. A request counts when its answer ends, whatever becomes of it. The instruments are told
+// of a method, a route and a status as far as they declare the keys "method", "route" and "status"; what they do not
+// declare of these is recorded as "other", which the catalogue has to declare. The error says which instrument there is
+// not.
 func Measure(handler http.Handler, metrics *wormweekly.Metrics, options ...Option) (http.Handler, error) {
 	own := &measured{handler: handler, names: [3]string{"http.requests", "http.duration", "http.in_flight"},
 		route: func(request *http.Request) string { return request.URL.Path },

@@ -176,8 +176,8 @@ static int add_attribute(Run *run, Given *given, PyObject *key, PyObject *value)
     return outside == 0;
 }
 
-/* The keys are compared with one another, so no more than 65 are read. Of so many a key is unknown, and a resource has fewer:
-   what follows could not mend that. */
+/* The keys are compared with one another, so no more than 65 are read. Of so many a key is unknown, and a resource has
+   fewer: what follows could not mend that. */
 static int read_dict(Run *run, PyObject *dict, Given *given) {
     PyObject *key, *value;
     Py_ssize_t at = 0;

@@ -69,8 +69,8 @@ typedef struct {
     unsigned long run;
 } Place;
 
-/* What any recorder may record: attributes or, where these are null, a set that was prepared, and a value. What is counted in
-   gets its place. */
+/* What any recorder may record: attributes or, where these are null, a set that was prepared, and a value. What is
+   counted in gets its place. */
 typedef struct {
     const Attributes *given;
     wormweekly_prepared prepared;
@@ -84,12 +84,12 @@ int handles_lock(pthread_mutex_t *mutex);
 /* Opens a run. It is called once, without Python's lock, on what is all zero. */
 uint32_t handles_open(Handles *own, const Texts *texts, uint8_t *fault, size_t room, size_t *length);
 
-/* In the child of a fork: opens the run anew, in the place of one that the parent opened, whose handles are left as they are, since
- * a thread that is not there may have been in the middle of them. Refused, all is as before. */
+/* In the child of a fork: opens the run anew, in the place of one that the parent opened, whose handles are left as
+ * they are, since a thread that is not there may have been in the middle of them. Refused, all is as before. */
 uint32_t handles_open_anew(Handles *own, const Texts *texts, uint8_t *fault, size_t room, size_t *length);
 
-/* Ends the run and begins the next one in its place, without Python's lock. Writes the total of each instrument. What has ended,
- * with all instruments closed, takes the place of what is all zero. Refused, all is as before. */
+/* Ends the run and begins the next one in its place, without Python's lock. Writes the total of each instrument. What
+ * has ended, with all instruments closed, takes the place of what is all zero. Refused, all is as before. */
 uint32_t handles_roll_over(Handles *own, uint64_t start, wormweekly_total *totals, Handles *ended);
 
 /* Frees them, but not in the child of a fork: a thread that is not there may have been in the middle of it. */
@@ -104,8 +104,8 @@ uint32_t handles_add_all(const Work *work, const wormweekly_prepared *list, size
 uint32_t handles_budget(const Work *work, wormweekly_budget_out *budget);
 uint32_t handles_ask(const Work *work, uint64_t amount);
 
-/* Makes a recording with a recorder that is free and has budget left. Where all with budget are busy, it waits for one of them;
-   where none has budget left, one asks the spare budget. */
+/* Makes a recording with a recorder that is free and has budget left. Where all with budget are busy, it waits for one
+   of them; where none has budget left, one asks the spare budget. */
 uint32_t handles_record_shared(Handles *own, size_t instrument, Recording *what);
 uint32_t handles_count_out(Handles *own, size_t instrument, const wormweekly_prepared *prepared, const Place *place);
 

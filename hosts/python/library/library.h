@@ -23,15 +23,15 @@ typedef struct {
     PyObject *refusals; /* the class of all of them */
 } State;
 
-/* What is kept of an instrument beside the library: the greatest value of its range; how many values above that were recorded
-   as it; how many that it does not declare were replaced. */
+/* What is kept of an instrument beside the library: the greatest value of its range; how many values above that were
+   recorded as it; how many that it does not declare were replaced. */
 typedef struct {
     int64_t greatest;
     unsigned long long clamped, replaced;
 } Beside;
 
-/* What instruments are refused is raised where the run is strict; else it is counted, by instrument and by name, and each is
-   told once. */
+/* What instruments are refused is raised where the run is strict; else it is counted, by instrument and by name, and
+   each is told once. */
 typedef struct {
     PyObject_HEAD
     PyObject *module;
@@ -75,8 +75,8 @@ PyObject *settled(Run *run, size_t instrument, PyObject *answer);
 /* Looks up a set of attributes for recordings on an instrument; that without any, where there is no mapping. */
 int prepare_set(Seat *on, PyObject *attributes, wormweekly_prepared *prepared);
 
-/* Makes a recording by any recorder. The second one makes that of a bound set, and of what is above the range as its greatest
-   value, and settles it. */
+/* Makes a recording by any recorder. The second one makes that of a bound set, and of what is above the range as its
+   greatest value, and settles it. */
 PyObject *made_of(Run *run, size_t instrument, Recording *what);
 PyObject *made_clamped(Run *run, size_t instrument, Recording *what);
 

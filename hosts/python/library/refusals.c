@@ -94,8 +94,8 @@ PyObject *done(Run *run, uint32_t answer) {
     return answer == WORMWEEKLY_DONE ? Py_NewRef(Py_None) : refuse(run, answer);
 }
 
-/* One more of this name on an instrument: whether it is the first. No other thread comes between what is read and what is
-   written. */
+/* One more of this name on an instrument: whether it is the first. No other thread comes between what is read and what
+   is written. */
 static int count_refusal(Run *run, size_t instrument, PyObject *refusal) {
     PyObject *counts = PyList_GetItem(run->refused, (Py_ssize_t)instrument);
     PyObject *name = PyObject_GetAttrString(refusal, "name");

@@ -87,7 +87,8 @@ static PyObject *run_new(PyTypeObject *type, PyObject *args, PyObject *keywords)
     return (PyObject *)run;
 }
 
-/* Run.open_anew(catalogue, config, certificate or None, start): in the child of a fork, the run that the parent opened of them */
+/* Run.open_anew(catalogue, config, certificate or None, start): in the child of a fork, the run that the parent opened
+   of them */
 static PyObject *open_anew(Run *self, PyObject *args) {
     PyObject *given[4];
     Texts texts = { 0 };

@@ -11,8 +11,8 @@ typedef struct {
     Place place;
 } Block;
 
-/* What blocks are entered for, one in another or by several threads: it makes no difference which one is left first. Where the
-   attributes were refused, nothing is recorded. */
+/* What blocks are entered for, one in another or by several threads: it makes no difference which one is left first.
+   Where the attributes were refused, nothing is recorded. */
 typedef struct {
     PyObject_HEAD
     Run *run;
@@ -133,7 +133,8 @@ static int pop(Scope *self, Block *block) {
     return 1;
 }
 
-/* A block was left, with an exception or None as the second argument: that is told, and not a refusal that came after it. */
+/* A block was left, with an exception or None as the second argument: that is told, and not a refusal that came after
+   it. */
 static PyObject *left(Scope *self, PyObject *const *args, PyObject *answer) {
     if (answer == NULL && args[1] != Py_None && PyErr_ExceptionMatches(self->run->state->refusals)) {
         PyErr_Clear();

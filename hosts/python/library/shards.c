@@ -69,8 +69,8 @@ static uint32_t make_locked(Handles *own, size_t at, size_t instrument, Recordin
     return answer;
 }
 
-/* By the shards that nobody uses, or else by waiting for those that somebody does, which takes as long as one recording. Those
-   that are known to be spent are left out. */
+/* By the shards that nobody uses, or else by waiting for those that somebody does, which takes as long as one
+   recording. Those that are known to be spent are left out. */
 static uint32_t by_shards(Handles *own, size_t instrument, Recording *what, int (*take)(pthread_mutex_t *)) {
     size_t count = own->lists.counts.recorders, first = first_of(count);
     for (size_t step = 0; step < count; step++) {
@@ -105,7 +105,8 @@ static uint32_t ask(Handles *own, size_t at, size_t instrument) {
     return answer;
 }
 
-/* By this thread's own shard, which asks the spare budget. What wants more than one recording may ask more than once. */
+/* By this thread's own shard, which asks the spare budget. What wants more than one recording may ask more than
+   once. */
 static uint32_t by_spare(Handles *own, size_t instrument, Recording *what) {
     size_t at = first_of(own->lists.counts.recorders);
     uint32_t answer = WORMWEEKLY_BUDGET, asked = WORMWEEKLY_DONE;

@@ -1,5 +1,5 @@
-//! Serves `/metrics` for Prometheus with the standard library alone: at most 8 KiB of head and five seconds for it, and a
-//! thread for each of at most 32 clients, so that a slow one holds nobody.
+//! Serves `/metrics` for Prometheus with the standard library alone: at most 8 KiB of head and five seconds for it, and
+//! a thread for each of at most 32 clients, so that a slow one holds nobody.
 //!
 //!     cargo run --offline --release --example metrics_http [ADDRESS:PORT]
 use std::error::Error;

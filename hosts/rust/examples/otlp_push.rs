@@ -1,6 +1,6 @@
-//! Pushes to a collector that takes OTLP over HTTP, with the standard library alone. What was not taken is kept and sent again,
-//! before what is collected later. A post that timed out may have arrived, so a delta window may arrive twice; with a cumulative
-//! reader that does no harm.
+//! Pushes to a collector that takes OTLP over HTTP, with the standard library alone. What was not taken is kept and
+//! sent again, before what is collected later. A post that timed out may have arrived, so a delta window may arrive
+//! twice; with a cumulative reader that does no harm.
 //!
 //!     cargo run --offline --release --example otlp_push [HOST:PORT]     without one, a collector of its own refuses the first post
 use std::collections::VecDeque;
@@ -19,7 +19,8 @@ const LONGEST: Duration = Duration::from_secs(60);
 /// The greatest post, in bytes.
 const MOST_BYTES: usize = 4 << 20;
 
-/// Where so many messages wait, nothing more is collected: a delta reader's next window then covers what was recorded meanwhile.
+/// Where so many messages wait, nothing more is collected: a delta reader's next window then covers what was recorded
+/// meanwhile.
 const MOST_WAITING: usize = 1000;
 
 const CATALOGUE: &str = "format = 1
@@ -104,7 +105,8 @@ impl Outbox {
     }
 }
 
-// Sends a request to `host`, as "127.0.0.1:4318", and reads the answer by what OpenTelemetry's protocol says of statuses.
+// Sends a request to `host`, as "127.0.0.1:4318", and reads the answer by what OpenTelemetry's protocol says of
+// statuses.
 fn post(host: &str, request: &[u8]) -> io::Result<Answer> {
     let mut stream = TcpStream::connect(host)?;
     stream.set_read_timeout(Some(WAIT))?;

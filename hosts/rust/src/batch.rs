@@ -100,7 +100,8 @@ pub enum PointValue {
 /// Reads the batch that a reader keeps, none before one.
 pub(crate) fn batch_of(reader: &mut Handle) -> Result<Option<Batch>, u32> {
     let mut out = raw::Batch::default();
-    // SAFETY: the handle is as the library left it, this call has it alone, and the buffer is borrowed for it. So below.
+    // SAFETY: the handle is as the library left it, this call has it alone, and the buffer is borrowed for it. So
+    // below.
     match unsafe { raw::wormweekly_batch(reader, &mut out) } {
         0 => {}
         UNKNOWN => return Ok(None),

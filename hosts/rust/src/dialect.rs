@@ -7,14 +7,14 @@ pub enum Dialect {
     Text,
     /// OpenMetrics 1.0.
     OpenMetrics,
-    /// The same with a line `_created` for each counter and histogram, which tells when its points begin. A server that does
-    /// not take it as that keeps it as a series more.
+    /// The same with a line `_created` for each counter and histogram, which tells when its points begin. A server that
+    /// does not take it as that keeps it as a series more.
     OpenMetricsCreated,
 }
 
 impl Dialect {
-    /// The format that a client asks for in its header `Accept`: OpenMetrics where it names that, with no less weight than plain
-    /// text; else the text format.
+    /// The format that a client asks for in its header `Accept`: OpenMetrics where it names that, with no less weight
+    /// than plain text; else the text format.
     pub fn for_accept(accept: &str) -> Dialect {
         let (mut open_metrics, mut text) = (0.0_f64, 0.0_f64);
         for one in accept.to_ascii_lowercase().split(',') {

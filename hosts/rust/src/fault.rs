@@ -1,8 +1,9 @@
 //! Why calls are refused.
 use std::fmt;
 
-/// What a refusal is about, as it prints: the instrument, and the key, the value or the range of the first mistake. A recording of
-/// attributes that were prepared tells none. Two are equal whatever they tell, so that refusals are compared by their kind alone.
+/// What a refusal is about, as it prints: the instrument, and the key, the value or the range of the first mistake. A
+/// recording of attributes that were prepared tells none. Two are equal whatever they tell, so that refusals are
+/// compared by their kind alone.
 #[derive(Clone, Debug, Default)]
 pub struct About(Option<Box<str>>);
 
@@ -93,7 +94,8 @@ impl Refusal {
         }
     }
 
-    // The same refusal, with what is told of it where a recording is refused for what it says. Only then is it asked for.
+    // The same refusal, with what is told of it where a recording is refused for what it says. Only then is it asked
+    // for.
     pub(crate) fn told(mut self, tell: impl FnOnce() -> Option<String>) -> Refusal {
         if let Some(about) = self.about() {
             about.0 = tell().map(String::into_boxed_str);

@@ -1,8 +1,8 @@
 //! How often the instruments of a plan may be recorded.
 use crate::raw;
 
-/// How often an instrument may be recorded, all recorders together. A certified plan declares no more than the most that is
-/// safe: between the two a catalogue can be raised.
+/// How often an instrument may be recorded, all recorders together. A certified plan declares no more than the most
+/// that is safe: between the two a catalogue can be raised.
 #[derive(Clone, Copy, Debug, PartialEq, Eq)]
 pub struct Headroom {
     /// How many recordings the catalogue declares, with those to spare.

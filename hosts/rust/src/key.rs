@@ -8,7 +8,8 @@ use crate::value::Value;
 ///
 /// const ROUTE: Key = Key::new("http.route");
 ///
-/// fn served(recorder: &mut wormweekly::Recorder, requests: &wormweekly::Instrument) -> Result<(), wormweekly::Refusal> {
+/// fn served(recorder: &mut wormweekly::Recorder, requests: &wormweekly::Instrument) -> Result<(), wormweekly::Refusal>
+/// {
 ///     recorder.record(requests, &[ROUTE.of("/pay")], 1)
 /// }
 /// ```

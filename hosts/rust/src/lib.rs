@@ -1,8 +1,8 @@
 //! Metrics that are counted exactly, as it is proved of the library that this crate links.
 //!
-//! A *catalogue* declares what may ever be recorded: instruments with the values of their attributes, and recorders with
-//! their budgets; a *config* declares readers and views. [`open`] certifies that nothing can overflow, and gives the
-//! [`Metrics`], with a [`Recorder`] for each recorder and a [`Reader`] for each reader.
+//! A *catalogue* declares what may ever be recorded: instruments with the values of their attributes, and recorders
+//! with their budgets; a *config* declares readers and views. [`open`] certifies that nothing can overflow, and gives
+//! the [`Metrics`], with a [`Recorder`] for each recorder and a [`Reader`] for each reader.
 //!
 //! ```
 //! const CATALOGUE: &str = "format = 1
@@ -36,9 +36,10 @@
 //!
 //! # Recordings of any thread
 //!
-//! [`Opened::share`] gives the recorders to the instruments, on which any thread records then, as a service wants it that has more
-//! threads than recorders. The recorders are shards: a recording takes one that is free, goes on to the next where a budget is
-//! spent, then asks the spare budget, and only then is it refused. What is refused is counted, and told once for each reason.
+//! [`Opened::share`] gives the recorders to the instruments, on which any thread records then, as a service wants it
+//! that has more threads than recorders. The recorders are shards: a recording takes one that is free, goes on to the
+//! next where a budget is spent, then asks the spare budget, and only then is it refused. What is refused is counted,
+//! and told once for each reason.
 //!
 //! ```
 //! use wormweekly::{Key, SharedInstrument, TimeUnit};
@@ -63,8 +64,8 @@
 //!
 //! # Recorders of one's own
 //!
-//! An [`Instrument`] is shared by threads, and has a mutex inside. A recorder or a reader is owned by one thread at a time:
-//! neither can be cloned, and two threads can't record with one recorder.
+//! An [`Instrument`] is shared by threads, and has a mutex inside. A recorder or a reader is owned by one thread at a
+//! time: neither can be cloned, and two threads can't record with one recorder.
 //!
 //! ```compile_fail,E0599
 //! fn copy(recorder: wormweekly::Recorder) -> wormweekly::Recorder {
@@ -81,7 +82,8 @@
 //! }
 //! ```
 //!
-//! Each of them may go to another thread, and an instrument be shared; a recorder or a reader is not shared even by `&`.
+//! Each of them may go to another thread, and an instrument be shared; a recorder or a reader is not shared even by
+//! `&`.
 //!
 //! ```
 //! fn goes<T: Send>() {}
@@ -114,27 +116,30 @@
 //!
 //! # What leaves
 //!
-//! [`Reader::collect`] answers the project's own text of a batch, [`Reader::batch`] the batch point by point. For a collector
-//! there is [`Reader::otlp`], for Prometheus [`Metrics::page`], each with a [`Resource`] that tells what produces the metrics;
-//! [`Reader::expose`] says before anything is recorded whether a server would hold each sample of a page. The examples
+//! [`Reader::collect`] answers the project's own text of a batch, [`Reader::batch`] the batch point by point. For a
+//! collector there is [`Reader::otlp`], for Prometheus [`Metrics::page`], each with a [`Resource`] that tells what
+//! produces the metrics; [`Reader::expose`] says before anything is recorded whether a server would hold each sample of
+//! a page. The examples
 //! `otlp_push` and `metrics_http` do both with the standard library alone.
 //!
 //! # What is told
 //!
-//! An opening that fails tells the first fault with its place, as `catalogue:7:1: instrument 0 "orders": unknown kind "guage"; ..`, and [`lint`]
-//! tells what else looks like a mistake before anything is opened. A recording that is refused for what it says prints that, as
+//! An opening that fails tells the first fault with its place, as `catalogue:7:1: instrument 0 "orders": unknown kind
+//! "guage"; ..`, and [`lint`] tells what else looks like a mistake before anything is opened. A recording that is
+//! refused for what it says prints that, as
 //! `orders: key "country" has no value "uk"`. The words may change from version to version; the variants do not change their meaning.
 //!
 //! # What a service lives on
 //!
 //! [`Recorder::left`] tells what a recorder has left, [`Recorder::ask`] gets more of what an instrument has to spare
-//! ([`Instrument::spare`]), and [`Metrics::roll_over`] ends a run with its totals and begins the next one with full budgets.
-//! [`Metrics::headrooms`] tells how far the catalogue's budgets could be raised.
+//! ([`Instrument::spare`]), and [`Metrics::roll_over`] ends a run with its totals and begins the next one with full
+//! budgets. [`Metrics::headrooms`] tells how far the catalogue's budgets could be raised.
 //!
 //! # Recording without forgetting
 //!
-//! A [`Key`] names an attribute once. [`Recorder::during`] counts some work as under way and [`Recorder::timed`] measures it, both on
-//! every way out of it. So a web service gives each of its workers a recorder, and wraps a request in both:
+//! A [`Key`] names an attribute once. [`Recorder::during`] counts some work as under way and [`Recorder::timed`]
+//! measures it, both on every way out of it. So a web service gives each of its workers a recorder, and wraps a request
+//! in both:
 //!
 //! ```
 //! use wormweekly::{Key, Prepared, Recorder, TimeUnit};

@@ -72,10 +72,10 @@ impl Recorder {
         self.record_prepared(active, -1)
     }
 
-    /// Does some work, and counts it as under way meanwhile: 1 is added to an up-down counter before it, and taken away after
-    /// it, also where it ends by `?` or in a panic. The work is done whatever is refused; where the first recording is, the second
-    /// is left out. The first one is refused as [`Refusal::Budget`] too where none would be left for the second. With what the
-    /// work gave comes the first [`Refusal`].
+    /// Does some work, and counts it as under way meanwhile: 1 is added to an up-down counter before it, and taken away
+    /// after it, also where it ends by `?` or in a panic. The work is done whatever is refused; where the first
+    /// recording is, the second is left out. The first one is refused as [`Refusal::Budget`] too where none would be
+    /// left for the second. With what the work gave comes the first [`Refusal`].
     pub fn during<T>(
         &mut self,
         active: &Prepared,
@@ -92,8 +92,8 @@ impl Recorder {
         (done, began.and(ended))
     }
 
-    /// Does some work, and records in a histogram how long it took, as [`Recorder::record_duration`] does. The work is done
-    /// whatever is refused; with what it gave comes the [`Refusal`].
+    /// Does some work, and records in a histogram how long it took, as [`Recorder::record_duration`] does. The work is
+    /// done whatever is refused; with what it gave comes the [`Refusal`].
     pub fn timed<T>(
         &mut self,
         took: &Prepared,
@@ -106,8 +106,8 @@ impl Recorder {
         (done, recorded)
     }
 
-    /// Records a duration in whole units. One above the instrument's range is recorded as the greatest value of the range,
-    /// and [`Instrument::clamped`] counts it.
+    /// Records a duration in whole units. One above the instrument's range is recorded as the greatest value of the
+    /// range, and [`Instrument::clamped`] counts it.
     ///
     /// # Errors
     ///

@@ -96,9 +96,9 @@ impl Metrics {
         &self.instruments
     }
 
-    /// Collects all instruments at a time in nanoseconds, in order, and answers a page for Prometheus: the lines of each batch,
-    /// and in OpenMetrics the end. The lines of a [`Resource`](crate::Resource) stand before it. Each lock is held for the
-    /// collection alone. [`Reader::expose`] tells beforehand whether a server will hold each sample.
+    /// Collects all instruments at a time in nanoseconds, in order, and answers a page for Prometheus: the lines of
+    /// each batch, and in OpenMetrics the end. The lines of a [`Resource`](crate::Resource) stand before it. Each lock
+    /// is held for the collection alone. [`Reader::expose`] tells beforehand whether a server will hold each sample.
     ///
     /// # Errors
     ///
@@ -112,8 +112,8 @@ impl Metrics {
         Ok(page + dialect.end())
     }
 
-    /// How often each instrument may be recorded, in order: what the catalogue declares, and the most that is safe. Takes no lock.
-    /// It looks at each stream of the plan, so ask once.
+    /// How often each instrument may be recorded, in order: what the catalogue declares, and the most that is safe.
+    /// Takes no lock. It looks at each stream of the plan, so ask once.
     ///
     /// # Errors
     ///
@@ -133,10 +133,10 @@ impl Metrics {
         }
     }
 
-    /// Ends this run by the recorders of all of it, and opens the next one of the same plan, since a time in nanoseconds. So a
-    /// service lives for ever on bounded budgets; to a reader of cumulative streams it is a restart. The instruments of the run
-    /// that has ended are closed. Its readers are left: let each collect a last time, since what was recorded after a reader's
-    /// last batch is in the totals only.
+    /// Ends this run by the recorders of all of it, and opens the next one of the same plan, since a time in
+    /// nanoseconds. So a service lives for ever on bounded budgets; to a reader of cumulative streams it is a restart.
+    /// The instruments of the run that has ended are closed. Its readers are left: let each collect a last time, since
+    /// what was recorded after a reader's last batch is in the totals only.
     ///
     /// # Errors
     ///
@@ -165,8 +165,8 @@ impl Metrics {
         Ok(Rolled { next, totals })
     }
 
-    /// The total of each instrument, in order, where all of them are what the recorders were told. The recorders are all
-    /// those of the run, in any order.
+    /// The total of each instrument, in order, where all of them are what the recorders were told. The recorders are
+    /// all those of the run, in any order.
     ///
     /// # Errors
     ///
@@ -245,8 +245,8 @@ impl Instrument {
     ///
     /// # Errors
     ///
-    /// The first of these: [`Refusal::UnknownRecorder`]; [`Refusal::Closed`]; [`Refusal::NoSpare`] where more is asked for
-    /// than is left.
+    /// The first of these: [`Refusal::UnknownRecorder`]; [`Refusal::Closed`]; [`Refusal::NoSpare`] where more is asked
+    /// for than is left.
     pub fn grant(&self, recorder: u32, amount: u64) -> Result<(), Refusal> {
         // SAFETY: the handle is as the library left it, and this call has it alone.
         match unsafe { raw::wormweekly_grant(&mut self.lock().handle, recorder, amount) } {

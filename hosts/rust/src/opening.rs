@@ -30,13 +30,14 @@ pub struct Opened {
     pub recorders: Vec<Recorder>,
     /// A seat for each reader.
     pub readers: Vec<Reader>,
-    /// A line for each view that does not fit an instrument, in fixed words; [`lint`] tells the same in sentences. Streams that
-    /// collide are a fault of the opening.
+    /// A line for each view that does not fit an instrument, in fixed words; [`lint`] tells the same in sentences.
+    /// Streams that collide are a fault of the opening.
     pub warnings: String,
 }
 
-/// Opens the instruments of a catalogue and a config (TOML), since a start in nanoseconds. The library makes a certificate
-/// that nothing can overflow, and checks it. Each run of a process has a number of its own, so seats of two runs do not mix.
+/// Opens the instruments of a catalogue and a config (TOML), since a start in nanoseconds. The library makes a
+/// certificate that nothing can overflow, and checks it. Each run of a process has a number of its own, so seats of two
+/// runs do not mix.
 ///
 /// # Errors
 ///
@@ -55,8 +56,8 @@ pub fn open(catalogue: &str, config: &str, start: u64) -> Result<Opened, OpenFau
 ///
 /// # Errors
 ///
-/// [`OpenFault::Fault`] with the first fault of the catalogue, else of the config, else of the certificate, else what its
-/// check finds first; [`OpenFault::Memory`].
+/// [`OpenFault::Fault`] with the first fault of the catalogue, else of the config, else of the certificate, else what
+/// its check finds first; [`OpenFault::Memory`].
 pub fn open_certified(
     catalogue: &str,
     config: &str,
@@ -71,9 +72,9 @@ pub fn open_certified(
     texts.open(start)
 }
 
-/// The remarks that `wormweekly lint` has on a catalogue and a config, a line each, with the place: what looks like a mistake and is
-/// none that keeps them from being opened, and what does, as budgets that are not safe. At most a hundred are told, and in one more
-/// line how many there are beside these.
+/// The remarks that `wormweekly lint` has on a catalogue and a config, a line each, with the place: what looks like a
+/// mistake and is none that keeps them from being opened, and what does, as budgets that are not safe. At most a
+/// hundred are told, and in one more line how many there are beside these.
 ///
 /// # Errors
 ///
@@ -248,8 +249,8 @@ fn call_next(
         recorders,
         readers,
     } = handles;
-    // SAFETY: the lists are borrowed for the call and apart from each other, their handles are null, and the recorder's is
-    // as the library left it.
+    // SAFETY: the lists are borrowed for the call and apart from each other, their handles are null, and the recorder's
+    // is as the library left it.
     unsafe {
         raw::wormweekly_next(
             recorder.handle(),

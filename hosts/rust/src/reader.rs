@@ -8,8 +8,8 @@ use crate::resource::Resource;
 use crate::texts::{told, told_bytes};
 use crate::value::Room;
 
-/// The seat of one reader, with which a thread collects. It keeps what it has seen, so that the windows of a delta reader
-/// leave no gap and no overlap.
+/// The seat of one reader, with which a thread collects. It keeps what it has seen, so that the windows of a delta
+/// reader leave no gap and no overlap.
 pub struct Reader {
     handle: Handle,
     name: String,
@@ -47,8 +47,8 @@ impl Reader {
     }
 
     /// Collects an instrument at a time in nanoseconds, and answers the text of the batch. The lock is held for the
-    /// collection alone, not for the text. A time before the reader's last one of the instrument is moved up to that one, so
-    /// a time that is wrongly far ahead stays until the clock is there.
+    /// collection alone, not for the text. A time before the reader's last one of the instrument is moved up to that
+    /// one, so a time that is wrongly far ahead stays until the clock is there.
     ///
     /// # Errors
     ///
@@ -58,8 +58,8 @@ impl Reader {
         self.text()
     }
 
-    /// The same without the text. The reader keeps the batch, for [`Reader::text`], [`Reader::batch`], [`Reader::otlp`] and
-    /// [`Reader::prometheus`].
+    /// The same without the text. The reader keeps the batch, for [`Reader::text`], [`Reader::batch`], [`Reader::otlp`]
+    /// and [`Reader::prometheus`].
     ///
     /// # Errors
     ///
@@ -107,8 +107,8 @@ impl Reader {
         self.encoded(0, resource).map_err(ResourceFault::of)
     }
 
-    /// The same as a line of OTLP/JSON, which a collector takes as `application/json`. Each line is a post of its own: of
-    /// several, a collector reads the first alone.
+    /// The same as a line of OTLP/JSON, which a collector takes as `application/json`. Each line is a post of its own:
+    /// of several, a collector reads the first alone.
     ///
     /// # Errors
     ///
@@ -118,8 +118,8 @@ impl Reader {
         Ok(String::from_utf8_lossy(&line).into_owned())
     }
 
-    /// Whether the streams of the reader can stand in a page for Prometheus: no sample of the page would be lost, or taken for
-    /// another. Ask before anything is recorded.
+    /// Whether the streams of the reader can stand in a page for Prometheus: no sample of the page would be lost, or
+    /// taken for another. Ask before anything is recorded.
     ///
     /// # Errors
     ///

@@ -8,8 +8,8 @@ use crate::value::{FewAttributes, Room, Value};
 // The number of the refusal of a recorder or an instrument of another run.
 const STRANGER: u32 = 12;
 
-/// The seat of one recorder, with which a thread records. It keeps what it was told of its recordings, and goes from thread
-/// to thread, but is never shared or copied.
+/// The seat of one recorder, with which a thread records. It keeps what it was told of its recordings, and goes from
+/// thread to thread, but is never shared or copied.
 // Each recording writes in it, so no two of a list share lines of cache, nor a pair of lines that are fetched together.
 #[repr(align(128))]
 pub struct Recorder {
@@ -129,8 +129,8 @@ impl Recorder {
         Ok(self.raw_budget(instrument)?.left)
     }
 
-    /// How many recordings the recorder has left on an instrument. Ask for more before there is none: a recording past the
-    /// budget is refused, and not counted.
+    /// How many recordings the recorder has left on an instrument. Ask for more before there is none: a recording past
+    /// the budget is refused, and not counted.
     ///
     /// # Errors
     ///
@@ -156,12 +156,13 @@ impl Recorder {
         unsafe { raw::wormweekly_ask(&mut held.handle, &mut self.handle, amount) }
     }
 
-    /// Makes a recording. Its attributes are found before the lock is taken, so that other threads wait for the recording alone.
-    /// Any order will do; that of the catalogue's keys is found fastest.
+    /// Makes a recording. Its attributes are found before the lock is taken, so that other threads wait for the
+    /// recording alone. Any order will do; that of the catalogue's keys is found fastest.
     ///
     /// # Errors
     ///
-    /// The first [`Refusal`]; nothing is counted then. It prints what it is about, as `orders: key "country" has no value "uk"`.
+    /// The first [`Refusal`]; nothing is counted then. It prints what it is about, as `orders: key "country" has no
+    /// value "uk"`.
     pub fn record(
         &mut self,
         instrument: &Instrument,
@@ -271,8 +272,8 @@ impl Recorder {
         }
     }
 
-    // Finds the set key of attributes, and writes it; the value stays. What the library answers, or that the instrument is of
-    // another run.
+    // Finds the set key of attributes, and writes it; the value stays. What the library answers, or that the instrument
+    // is of another run.
     fn find(
         &mut self,
         instrument: &Instrument,

@@ -5,8 +5,8 @@ use crate::raw;
 use crate::texts::told;
 use crate::value::{Room, Value};
 
-/// The attributes of what produces the metrics, as `service.name`: at most 64, none with an empty key, and none twice. They are
-/// looked at by each call that writes them.
+/// The attributes of what produces the metrics, as `service.name`: at most 64, none with an empty key, and none twice.
+/// They are looked at by each call that writes them.
 #[derive(Clone, Default)]
 pub struct Resource {
     room: Room,
@@ -20,8 +20,8 @@ impl Resource {
         Resource { room }
     }
 
-    /// The lines of a page that tell of it, as `target_info`; none where it has no attributes. They stand before those of
-    /// [`Metrics::page`](crate::Metrics::page).
+    /// The lines of a page that tell of it, as `target_info`; none where it has no attributes. They stand before those
+    /// of [`Metrics::page`](crate::Metrics::page).
     ///
     /// # Errors
     ///

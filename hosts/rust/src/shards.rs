@@ -134,9 +134,9 @@ impl Shards {
         }
     }
 
-    /// Makes a recording on the instrument of a number, with the first shard from this thread's own that is free and has budget
-    /// left. Where all with budget are busy, it waits for one of them, which takes as long as one recording. Where none has budget
-    /// left, one asks the spare budget. The answer is that of the library.
+    /// Makes a recording on the instrument of a number, with the first shard from this thread's own that is free and
+    /// has budget left. Where all with budget are busy, it waits for one of them, which takes as long as one recording.
+    /// Where none has budget left, one asks the spare budget. The answer is that of the library.
     pub(crate) fn record(
         &self,
         number: usize,
@@ -399,7 +399,8 @@ fn put_back(held: &mut [MutexGuard<'_, Shard>], recorders: Vec<Recorder>) {
     }
 }
 
-// A plan has at most 64 recorders, so that a set of them is a number. Of more, which are of several runs, the last ones are in none.
+// A plan has at most 64 recorders, so that a set of them is a number. Of more, which are of several runs, the last ones
+// are in none.
 fn bit(at: usize) -> u64 {
     u32::try_from(at)
         .ok()

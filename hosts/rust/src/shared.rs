@@ -16,8 +16,8 @@ use std::time::Duration;
 type Tell = Arc<dyn Fn(&str, &Refusal) + Send + Sync>;
 
 /// A run on whose instruments any thread records, by the recorders that the catalogue declares: each is a shard, and a
-/// recording takes one that is free. A shard whose budget is spent hands on to the next, and the last one asks the spare budget;
-/// only then is a recording refused. Cloned, it is the same run.
+/// recording takes one that is free. A shard whose budget is spent hands on to the next, and the last one asks the
+/// spare budget; only then is a recording refused. Cloned, it is the same run.
 #[derive(Clone)]
 pub struct Shared {
     own: Arc<Own>,
@@ -42,15 +42,16 @@ struct InstrumentCounts {
 /// An instrument on which any thread records. Cloned, it is the same instrument.
 ///
 /// A recording that is refused, for whatever reason, changes nothing but a count of such refusals
-/// ([`SharedInstrument::refused`]), and is told once for each reason ([`Shared::on_refusal`]). Calls that begin with `try_`
-/// answer the refusal too.
+/// ([`SharedInstrument::refused`]), and is told once for each reason ([`Shared::on_refusal`]). Calls that begin with
+/// `try_` answer the refusal too.
 #[derive(Clone)]
 pub struct SharedInstrument {
     own: Arc<Own>,
     number: usize,
 }
 
-/// A set of attributes that was looked up once, for recordings on an instrument by any thread. It stays from run to run.
+/// A set of attributes that was looked up once, for recordings on an instrument by any thread. It stays from run to
+/// run.
 #[derive(Clone)]
 pub struct Bound {
     on: SharedInstrument,
@@ -134,8 +135,8 @@ impl Shared {
         self.own.metrics()
     }
 
-    /// Has each reason for which recordings on an instrument are refused told once, with the name of the instrument, by the
-    /// thread that meets it first. It takes the place of what was to tell them before.
+    /// Has each reason for which recordings on an instrument are refused told once, with the name of the instrument, by
+    /// the thread that meets it first. It takes the place of what was to tell them before.
     pub fn on_refusal(&self, tell: impl Fn(&str, &Refusal) + Send + Sync + 'static) {
         *self
             .own
@@ -144,7 +145,8 @@ impl Shared {
             .unwrap_or_else(PoisonError::into_inner) = Some(Arc::new(tell));
     }
 
-    /// The total of each instrument, in order, each compared with what all recorders were told. Recordings wait meanwhile.
+    /// The total of each instrument, in order, each compared with what all recorders were told. Recordings wait
+    /// meanwhile.
     ///
     /// # Errors
     ///
@@ -153,16 +155,16 @@ impl Shared {
         self.own.shards.settle()
     }
 
-    /// How much is left of all that may be recorded on an instrument, budgets and spare: the least part that any has, from 1.0 to
-    /// 0.0. Roll over in time: past it, recordings are refused.
+    /// How much is left of all that may be recorded on an instrument, budgets and spare: the least part that any has,
+    /// from 1.0 to 0.0. Roll over in time: past it, recordings are refused.
     pub fn part_left(&self) -> f64 {
         self.own.shards.part_left()
     }
 
-    /// Ends the run, and begins the next one of the same plan in its place, since a time in nanoseconds: with budgets as
-    /// declared, nothing counted, and all instruments open. Instruments and bound sets go on in it; recordings wait
-    /// meanwhile. With the totals come the instruments that ended, of which each reader collects a last time, and the readers
-    /// of the next run. What is in flight then is counted out in no run.
+    /// Ends the run, and begins the next one of the same plan in its place, since a time in nanoseconds: with budgets
+    /// as declared, nothing counted, and all instruments open. Instruments and bound sets go on in it; recordings wait
+    /// meanwhile. With the totals come the instruments that ended, of which each reader collects a last time, and the
+    /// readers of the next run. What is in flight then is counted out in no run.
     ///
     /// # Errors
     ///
@@ -209,8 +211,8 @@ impl SharedInstrument {
         self.own.metrics().instruments()[self.number].clone()
     }
 
-    /// The value, where the instrument declares it for the key; else the other one, and [`SharedInstrument::replaced`] counts it.
-    /// A recording tells what else is wrong.
+    /// The value, where the instrument declares it for the key; else the other one, and [`SharedInstrument::replaced`]
+    /// counts it. A recording tells what else is wrong.
     pub fn known_or<'a>(&self, key: &str, value: Value<'a>, other: Value<'a>) -> Value<'a> {
         let found = match self.own.shards.any() {
             Some(mut shard) => shard.set_of(self.number, &[(key, value)]),
@@ -267,15 +269,15 @@ impl SharedInstrument {
         self.count_clamped(code, whole);
     }
 
-    /// Records how long it takes until the answer is dropped, as [`SharedInstrument::record_duration`] does. The attributes are
-    /// looked up before; where they are refused, nothing is recorded later.
+    /// Records how long it takes until the answer is dropped, as [`SharedInstrument::record_duration`] does. The
+    /// attributes are looked up before; where they are refused, nothing is recorded later.
     pub fn time(&self, unit: TimeUnit, attributes: &[(&str, Value<'_>)]) -> Timer {
         Timer::new(self.bound(attributes).ok(), unit)
     }
 
     /// Counts in what goes on until the answer is dropped, on an up-down counter, and then out again. What could not be
-    /// counted out is not counted in: where fewer than two recordings are left for it, beside those that count out what is
-    /// under way, it is refused as [`Refusal::Budget`].
+    /// counted out is not counted in: where fewer than two recordings are left for it, beside those that count out what
+    /// is under way, it is refused as [`Refusal::Budget`].
     pub fn in_flight(&self, attributes: &[(&str, Value<'_>)]) -> InFlight {
         match self.bound(attributes) {
             Ok(bound) => bound.in_flight(),
@@ -315,8 +317,8 @@ impl SharedInstrument {
         self.counts().refused.all()
     }
 
-    /// How many durations above the range were recorded as the greatest value of the range. Where these are many, declare a
-    /// wider range.
+    /// How many durations above the range were recorded as the greatest value of the range. Where these are many,
+    /// declare a wider range.
     pub fn clamped(&self) -> u64 {
         self.counts().clamped.load(Ordering::Relaxed)
     }

@@ -40,8 +40,8 @@ impl From<bool> for Value<'_> {
 const FEW: usize = 8;
 const SHORT: usize = 256;
 
-// The keys of attributes are compared with one another, so no more than these are. Of so many a key is unknown or stands twice, and
-// what follows could not mend that.
+// The keys of attributes are compared with one another, so no more than these are. Of so many a key is unknown or
+// stands twice, and what follows could not mend that.
 const MOST: usize = 65;
 
 /// Room for the few short attributes that most recordings have.
@@ -94,7 +94,8 @@ fn put<'a>(room: &'a mut [u8], text: &str) -> Option<&'a mut [u8]> {
     Some(left)
 }
 
-// Copies the first and the last so many bytes of a text, which is less work than a call that copies it where these are all.
+// Copies the first and the last so many bytes of a text, which is less work than a call that copies it where these are
+// all.
 #[inline(always)]
 fn put_ends<const N: usize>(room: &mut [u8], text: &[u8]) {
     if let (Some(room), Some(text)) = (room.first_chunk_mut::<N>(), text.first_chunk::<N>()) {
@@ -121,7 +122,8 @@ fn attribute_of(key: &str, value: Value<'_>) -> Attribute {
     }
 }
 
-/// Room for any attributes of one call, which a recorder keeps from call to call: after the first calls it takes no memory.
+/// Room for any attributes of one call, which a recorder keeps from call to call: after the first calls it takes no
+/// memory.
 #[derive(Clone, Default)]
 pub(crate) struct Room {
     pub(crate) texts: Vec<u8>,

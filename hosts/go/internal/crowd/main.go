@@ -1,6 +1,6 @@
-// A thousand goroutines record at once over eight recorders. It fails where a total is another, or where more recordings wait for a
-// millisecond than calls do at a mutex around a map, by a hundredth of all, in each of five rounds: on a machine that has other
-// work, whoever holds a lock is interrupted.
+// A thousand goroutines record at once over eight recorders. It fails where a total is another, or where more
+// recordings wait for a millisecond than calls do at a mutex around a map, by a hundredth of all, in each of five
+// rounds: on a machine that has other work, whoever holds a lock is interrupted.
 package main
 
 import (

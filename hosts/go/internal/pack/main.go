@@ -1,4 +1,5 @@
-// Packs this module with the library and its header beside the sources, as a folder in a zip, and as a folder that is a proxy:
+// Packs this module with the library and its header beside the sources, as a folder in a zip, and as a folder that is a
+// proxy:
 //
 //	go run ./internal/pack LIBRARY HEADER FOLDER    makes FOLDER/wormweekly-go.zip and FOLDER/go
 package main

@@ -12,14 +12,14 @@ instruments, with a `Recorder` for each recorder and a `Reader` for each reader.
     print(metrics.reader("console").text(orders))
     print(metrics.settle())
 
-Any thread records on an instrument. The recorders that the catalogue declares are its shards: a recording takes one that is
-free, goes on to the next where a budget is spent, then asks the spare budget, and only then is it refused. What is refused
-is counted by `Instrument.refused` and logged once for each reason, by the logger `wormweekly`; with `strict=True` it is
-raised as a `Refusal`, with the reason as its `name` and in words with the key and the value.
+Any thread records on an instrument. The recorders that the catalogue declares are its shards: a recording takes one
+that is free, goes on to the next where a budget is spent, then asks the spare budget, and only then is it refused. What
+is refused is counted by `Instrument.refused` and logged once for each reason, by the logger `wormweekly`; with
+`strict=True` it is raised as a `Refusal`, with the reason as its `name` and in words with the key and the value.
 
-A thread that wants a recorder of its own takes one from `Metrics.recorders`. It belongs to one thread at a time: to the first one that
-records with it, until another calls `take_over`; a `Pool` lends them to threads that come and go. `lint` tells what looks
-like a mistake in a catalogue and a config. After a fork, a run is refused in the child.
+A thread that wants a recorder of its own takes one from `Metrics.recorders`. It belongs to one thread at a time: to the
+first one that records with it, until another calls `take_over`; a `Pool` lends them to threads that come and go. `lint`
+tells what looks like a mistake in a catalogue and a config. After a fork, a run is refused in the child.
 """
 
 from wormweekly._batches import Batch, Buckets, Kind, Last, Point, Stream, Sum, Value

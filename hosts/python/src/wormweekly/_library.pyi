@@ -50,8 +50,8 @@ class Instrument:
     def record(self, value: int, attributes: _Attributes = ..., /) -> None:
         """Records a value of a histogram or a gauge. Any thread may."""
     def known_or(self, key: str, value: _Value, other: _Value, /) -> _Value:
-        """The value, where the instrument declares it for the key; else the other one, and `replaced` counts it. A recording
-        tells what else is wrong."""
+        """The value, where the instrument declares it for the key; else the other one, and `replaced` counts it. A
+        recording tells what else is wrong."""
     def declares(self, key: str, /) -> bool:
         """Whether it declares a key."""
     def _replaced(self) -> int: ...
@@ -59,13 +59,13 @@ class Instrument:
     def record_clamped(self, value: int, attributes: _Attributes = ..., /) -> None:
         """Records a value, and one above the range as its greatest value, which `clamped` counts."""
     def time(self, attributes: _Attributes | None = None, unit: int = ...) -> Timer:
-        """A `with` that records how long its block took, in units of so many nanoseconds: milliseconds, if nothing else is
-        said. What is above the range is recorded as its greatest value, and `clamped` counts it. The attributes are looked
-        up before the block."""
+        """A `with` that records how long its block took, in units of so many nanoseconds: milliseconds, if nothing else
+        is said. What is above the range is recorded as its greatest value, and `clamped` counts it. The attributes are
+        looked up before the block."""
     def in_flight(self, attributes: _Attributes | None = None) -> InFlight:
-        """A `with` that counts its block in and out, on an up-down counter. What could not be counted out is not counted
-        in: where fewer than two recordings are left for it, beside those that count out what is under way, it is refused.
-        The attributes are looked up before the block."""
+        """A `with` that counts its block in and out, on an up-down counter. What could not be counted out is not
+        counted in: where fewer than two recordings are left for it, beside those that count out what is under way, it
+        is refused. The attributes are looked up before the block."""
     def bind(self, attributes: _Attributes, /) -> Bound:
         """Finds a set of attributes once, for recordings by `Bound.add`, or by `Recorder.add`."""
     def grant(self, recorder: Recorder, amount: int, /) -> None:

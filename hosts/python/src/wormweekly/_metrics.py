@@ -35,7 +35,8 @@ class Dialect(IntEnum):
 
     @classmethod
     def accepted(cls, accept: str) -> Dialect:
-        """That for whoever asks with this header `Accept`: OpenMetrics where it is named, with no less weight than plain text."""
+        """That for whoever asks with this header `Accept`: OpenMetrics where it is named, with no less weight than
+        plain text."""
         weights = {"application/openmetrics-text": 0.0, "text/plain": 0.0}
         for one in accept.lower().split(","):
             name, *parameters = (word.strip() for word in one.split(";"))
@@ -56,9 +57,9 @@ def _weight(parameters: Iterable[str]) -> float:
 
 
 def lint(catalogue: str, config: str) -> list[str]:
-    """The remarks that `wormweekly lint` has on a catalogue and a config, a line each with its place: what looks like a mistake,
-    also that the two are not safe together. At most a hundred are told, and in one more line how many there are beside these.
-    A fault of the texts is raised as an `OpenFault`."""
+    """The remarks that `wormweekly lint` has on a catalogue and a config, a line each with its place: what looks like a
+    mistake, also that the two are not safe together. At most a hundred are told, and in one more line how many there
+    are beside these. A fault of the texts is raised as an `OpenFault`."""
     return _library.Run.lint(catalogue, config).split("\n")[:-1]
 
 
@@ -115,8 +116,8 @@ class Instrument(_library.Instrument):
     """An instrument, on which any thread records.
 
     A recording takes a recorder that no other thread is using. One whose budget is spent hands on to the next, and the
-    last one asks the spare budget; only then is a recording refused. What is refused, for whatever reason, changes nothing
-    but `refused`, and is logged once for each reason; a run that was opened with `strict=True` raises it."""
+    last one asks the spare budget; only then is a recording refused. What is refused, for whatever reason, changes
+    nothing but `refused`, and is logged once for each reason; a run that was opened with `strict=True` raises it."""
 
     __slots__ = ("_meter", "_name", "_number")
     _name: str
@@ -144,8 +145,8 @@ class Instrument(_library.Instrument):
 
     @property
     def clamped(self) -> int:
-        """How many values above its range `time` and `record_clamped` recorded as the greatest value of the range. Where these
-        are many, declare a wider range."""
+        """How many values above its range `time` and `record_clamped` recorded as the greatest value of the range.
+        Where these are many, declare a wider range."""
         return self._clamped()
 
     @property
@@ -163,8 +164,8 @@ class Instrument(_library.Instrument):
 
 
 class Recorder(_library.Recorder):
-    """The seat of a recorder, for a thread that wants its own: `Instrument.add` needs none. It is the first thread's that
-    records with it, until another calls `take_over`."""
+    """The seat of a recorder, for a thread that wants its own: `Instrument.add` needs none. It is the first thread's
+    that records with it, until another calls `take_over`."""
 
     __slots__ = ("_name", "_number")
     _name: str
@@ -218,9 +219,9 @@ class Reader(_library.Reader):
         self, instrument: Instrument, resource: Attributes, now: int | None = None, *, json: bool = False
     ) -> bytes:
         """The same in the OpenTelemetry protocol, with the attributes of the resource: a message that a collector takes
-        at /v1/metrics as application/x-protobuf, or a line of JSON, as application/json; empty where there are no points.
-        Messages in bytes, one after the other, are one message; each line of JSON is a post of its own. Keep one that
-        was not taken: a delta reader does not give its window again."""
+        at /v1/metrics as application/x-protobuf, or a line of JSON, as application/json; empty where there are no
+        points. Messages in bytes, one after the other, are one message; each line of JSON is a post of its own. Keep
+        one that was not taken: a delta reader does not give its window again."""
         return self._collect_otlp(instrument, time.time_ns() if now is None else now, resource, json)
 
     def prometheus(
@@ -266,9 +267,10 @@ class Metrics:
         reopen_in_child: bool = False,
     ) -> Metrics:
         """Opens a run of a catalogue and a config (TOML), since a time in nanoseconds, or now. Where no certificate is
-        given, the library makes one; it is checked, whoever made it. Raises an `OpenFault` with the first fault. A strict
-        run raises each refusal of a recording; else these are counted, and logged once for each reason. The child of a
-        fork refuses to count, unless `reopen_in_child` has it opened anew there, since the time of the fork."""
+        given, the library makes one; it is checked, whoever made it. Raises an `OpenFault` with the first fault. A
+        strict run raises each refusal of a recording; else these are counted, and logged once for each reason. The
+        child of a fork refuses to count, unless `reopen_in_child` has it opened anew there, since the time of the
+        fork."""
         teller = Teller()
         run = _library.Run(catalogue, config, certificate, time.time_ns() if start is None else start, strict, teller)
         self = cls()
@@ -303,8 +305,8 @@ class Metrics:
         return tuple(_total(*self._run.settle(one.number)) for one in self.instruments)
 
     def close(self) -> None:
-        """Ends the recordings of all instruments. They are collected and settled as before. At the end of a `with` it is
-        called."""
+        """Ends the recordings of all instruments. They are collected and settled as before. At the end of a `with` it
+        is called."""
         for instrument in self.instruments:
             try:
                 instrument.close()
@@ -333,8 +335,8 @@ class Metrics:
         return b"".join(page)
 
     def part_left(self) -> float:
-        """How much is left of all that may be recorded on an instrument, budgets and spare: the least part that any has,
-        from 1.0 to 0.0. Roll over in time: past it, recordings are refused."""
+        """How much is left of all that may be recorded on an instrument, budgets and spare: the least part that any
+        has, from 1.0 to 0.0. Roll over in time: past it, recordings are refused."""
         return min((self._part_left_of(one) for one in self.instruments), default=1.0)
 
     def _part_left_of(self, instrument: Instrument) -> float:
@@ -356,8 +358,8 @@ class Metrics:
 
 
 class Ended(Metrics):
-    """A run that has ended, with the total of each instrument, in order. Its instruments are closed; its readers collect them
-    as they would have."""
+    """A run that has ended, with the total of each instrument, in order. Its instruments are closed; its readers
+    collect them as they would have."""
 
     __slots__ = ("totals",)
     totals: tuple[Total, ...]

@@ -10,7 +10,8 @@ from wormweekly._metrics import Recorder
 
 
 class Pool:
-    """Lends recorders to threads in turn, so that all budgets are spent alike. Who finds none waits, so long as is said."""
+    """Lends recorders to threads in turn, so that all budgets are spent alike. Who finds none waits, so long as is
+    said."""
 
     def __init__(self, recorders: Iterable[Recorder], timeout: float | None = None) -> None:
         self._free: Queue[Recorder] = Queue()

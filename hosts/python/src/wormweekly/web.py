@@ -2,9 +2,10 @@
 
     application = Wsgi(application, Measures(metrics, route=route_of), page=Page(metrics, reader).bytes)
 
-A request counts when its answer ends, whatever becomes of it. The instruments are told of a method, a route and a status as far
-as they declare the keys `method`, `route` and `status`; what they do not declare of these is recorded as `other`, which the
-catalogue has to declare. A request is served, whether it is counted or not: the metrics are not to be strict.
+A request counts when its answer ends, whatever becomes of it. The instruments are told of a method, a route and a
+status as far as they declare the keys `method`, `route` and `status`; what they do not declare of these is recorded as
+`other`, which the catalogue has to declare. A request is served, whether it is counted or not: the metrics are not to
+be strict.
 """
 
 from __future__ import annotations
@@ -30,8 +31,9 @@ AsgiApplication = Callable[[Scope, Receive, Send], Awaitable[None]]
 
 
 class Measures:
-    """What is recorded of requests: each counts on `requests`, takes its time on `duration`, in units of so many nanoseconds,
-    and is in flight on an up-down counter. Where a name is None, nothing is. A route is what is made of a path."""
+    """What is recorded of requests: each counts on `requests`, takes its time on `duration`, in units of so many
+    nanoseconds, and is in flight on an up-down counter. Where a name is None, nothing is. A route is what is made of a
+    path."""
 
     def __init__(
         self,
@@ -108,7 +110,8 @@ class Wsgi:
         request = self._measures.begin(environ["REQUEST_METHOD"], path)
 
         def note(status: str, *rest: Any) -> Callable[[bytes], object]:
-            request.status = int(status.split(" ", 1)[0])
+            if (number := status[:3]).isdecimal():
+                request.status = int(number)
             return start_response(status, *rest)
 
         try:

@@ -3,10 +3,10 @@
     pages = PageFolder("/run/shop-metrics", metrics, metrics.reader("prometheus"), {"service.name": "shop"})
     pages.page()  # of all processes
 
-Each process writes its page each second, and before it gives one of all. Counters and histograms are added up, exactly; a
-gauge, and what goes up and down, stands for each process that lives, with its label `pid`. What a process counted stays after
-its end: who asks next adds that to `ended.page`. Of a process that was killed, what it recorded after its last page is lost.
-Empty the folder when the service starts, or it goes on counting.
+Each process writes its page each second, and before it gives one of all. Counters and histograms are added up, exactly;
+a gauge, and what goes up and down, stands for each process that lives, with its label `pid`. What a process counted
+stays after its end: who asks next adds that to `ended.page`. Of a process that was killed, what it recorded after its
+last page is lost. Empty the folder when the service starts, or it goes on counting.
 """
 
 from __future__ import annotations
@@ -57,8 +57,8 @@ class PageFolder:
         interval: float = 1.0,
         roll_over_below: float | None = None,
     ) -> None:
-        """Begins, in each child of a fork anew where the metrics do. It rolls over as a `Page` does, and raises what that
-        raises."""
+        """Begins, in each child of a fork anew where the metrics do. It rolls over as a `Page` does, and raises what
+        that raises."""
         self._metrics = metrics
         self._page = Page(metrics, reader, resource, roll_over_below=roll_over_below)
         self._folder = Path(folder)
@@ -147,8 +147,8 @@ class PageFolder:
         return self._folder / f"{self._name}{suffix}"
 
     def _with_ended(self) -> str:
-        """Adds the pages of processes that ended to that of the earlier ones. Its first line has the names of those that were
-        added last: where their files are still there, whoever added them ended before it removed these."""
+        """Adds the pages of processes that ended to that of the earlier ones. Its first line has the names of those
+        that were added last: where their files are still there, whoever added them ended before it removed these."""
         path = self._folder / "ended.page"
         head, _, before = _read(path).partition("\n") if path.exists() else ("", "", "")
         for name in head.split()[1:]:

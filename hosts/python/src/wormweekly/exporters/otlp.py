@@ -3,10 +3,10 @@
     with Metrics.open(catalogue, config) as metrics, otlp.Exporter(metrics, metrics.reader("otlp")):
         serve(metrics)
 
-Where nothing else is said, the environment says where to: `Settings` lists its variables. Each collection is one post. What
-a collector did not take waits, in order, and is posted again after the pause that it asks for, else after pauses that grow;
-what it refuses for good is dropped, counted and logged by the logger `wormweekly`. The same thread rolls over before a budget
-is spent. A post that timed out may have arrived, so that a delta window may arrive twice.
+Where nothing else is said, the environment says where to: `Settings` lists its variables. Each collection is one post.
+What a collector did not take waits, in order, and is posted again after the pause that it asks for, else after pauses
+that grow; what it refuses for good is dropped, counted and logged by the logger `wormweekly`. The same thread rolls
+over before a budget is spent. A post that timed out may have arrived, so that a delta window may arrive twice.
 """
 
 from __future__ import annotations
@@ -127,11 +127,11 @@ class _Environment:
 
 
 class Exporter:
-    """Collects by a reader at each interval, and posts. No one else collects by this reader. In the child of a fork it has
-    ended, and what waits is the parent's: begin one there.
+    """Collects by a reader at each interval, and posts. No one else collects by this reader. In the child of a fork it
+    has ended, and what waits is the parent's: begin one there.
 
-    `posted` counts the collections that were taken, `dropped` those that were refused for good, and the oldest ones where
-    more than `most_waiting` bytes wait; `rejected` the points that a collector says it did not take."""
+    `posted` counts the collections that were taken, `dropped` those that were refused for good, and the oldest ones
+    where more than `most_waiting` bytes wait; `rejected` the points that a collector says it did not take."""
 
     def __init__(
         self,
@@ -143,8 +143,8 @@ class Exporter:
         on_roll_over: Callable[[Ended], object] | None = None,
         most_waiting: int = 64 << 20,
     ) -> None:
-        """Begins. The metrics roll over where less than this part of a budget is left: if nothing is said, half of it, where
-        they have no other reader. `on_roll_over` gets the run that ended, so that others collect it. Raises a
+        """Begins. The metrics roll over where less than this part of a budget is left: if nothing is said, half of it,
+        where they have no other reader. `on_roll_over` gets the run that ended, so that others collect it. Raises a
         `ResourceRefusal`."""
         self.settings = settings or Settings.of_environment()
         self.posted = self.dropped = self.rejected = 0

@@ -21,8 +21,8 @@ _ADDED = ("counter", "histogram")
 
 
 class Page:
-    """A page of all instruments in the text format 0.0.4, by a cumulative reader. What runs counted that ended is added; what
-    is no counter and no histogram is that of the run that is under way."""
+    """A page of all instruments in the text format 0.0.4, by a cumulative reader. What runs counted that ended is
+    added; what is no counter and no histogram is that of the run that is under way."""
 
     def __init__(
         self,
@@ -32,8 +32,9 @@ class Page:
         *,
         roll_over_below: float | None = None,
     ) -> None:
-        """The metrics roll over when a page is asked for, where less than this part of a budget is left: if nothing is said,
-        half of it, where they have no other reader; else hand `take` the runs that end. Raises an `ExposureFault`, a
+        """The metrics roll over when a page is asked for, where less than this part of a budget is left: if nothing is
+        said, half of it, where they have no other reader; else hand `take` the runs that end. Raises an
+        `ExposureFault`, a
         `ResourceRefusal`."""
         reader.expose()
         self._metrics, self._reader, self._resource = metrics, reader, resource or {}
@@ -43,7 +44,8 @@ class Page:
         at_fork(self, after_in_child=Page._begin)
 
     def _begin(self) -> None:
-        """Begins, or begins anew in the child of a fork: what ended before is the parent's, who may have held the lock."""
+        """Begins, or begins anew in the child of a fork: what ended before is the parent's, who may have held the
+        lock."""
         self._turn = threading.Lock()
         self._ended = ""
 
@@ -74,7 +76,8 @@ class Page:
 
 
 def roll_over_part(metrics: Metrics) -> float:
-    """Below which part of a budget the only reader's driver rolls over: another reader would lose what it did not collect."""
+    """Below which part of a budget the only reader's driver rolls over: another reader would lose what it did not
+    collect."""
     return 0.5 if len(metrics.readers) == 1 else 0.0
 
 
