@@ -51,7 +51,7 @@ static PyObject *new_scope(PyTypeObject *type, Run *run, size_t instrument, cons
     return (PyObject *)made;
 }
 
-static PyObject *known(PyObject *attributes) { return attributes == Py_None ? NULL : attributes; }
+static PyObject *mapping_of(PyObject *attributes) { return attributes == Py_None ? NULL : attributes; }
 
 static int read_unit(Run *run, PyObject *given, int64_t *unit) {
     if (given == NULL) {
@@ -76,7 +76,7 @@ PyObject *time_blocks(Seat *self, PyObject *args, PyObject *keywords) {
     if (!PyArg_ParseTupleAndKeywords(args, keywords, "|OO:time", names, &attributes, &given)) {
         return NULL;
     }
-    is_found = read_unit(self->run, given, &unit) && prepare_set(self, known(attributes), &own);
+    is_found = read_unit(self->run, given, &unit) && prepare_set(self, mapping_of(attributes), &own);
     return new_scope(self->run->state->timer, self->run, self->number, is_found ? &own : NULL, unit);
 }
 
@@ -88,7 +88,7 @@ PyObject *count_blocks(Seat *self, PyObject *args, PyObject *keywords) {
     if (!PyArg_ParseTupleAndKeywords(args, keywords, "|O:in_flight", names, &attributes)) {
         return NULL;
     }
-    is_found = prepare_set(self, known(attributes), &own);
+    is_found = prepare_set(self, mapping_of(attributes), &own);
     return new_scope(self->run->state->in_flight, self->run, self->number, is_found ? &own : NULL, 1);
 }
 
