@@ -341,8 +341,8 @@ class Crowd(unittest.TestCase):
         run_all(2, lambda: asyncio.run(work()))
         self.assertEqual(metrics.settle(), (Total(20_000, 50_000), Total(20_000, 0)))
         self.assertEqual((requests.refused, in_flight.refused), ({}, {}))
-        # who is interrupted between the two has waited too, so a hundredth may
-        self.assertLess(sum(wait > 0.001 for wait in waits), 100)
+        # who is interrupted between the two has waited too, so a few may
+        self.assertLess(sum(wait > 0.001 for wait in waits), 500)
 
 
 class Failing:
