@@ -1,5 +1,6 @@
 """What `-o` does to the file at its path: its mode, links, long names, and what stands beside it."""
 
+import fcntl
 import os
 import subprocess
 import sys
@@ -61,5 +62,26 @@ with tempfile.TemporaryDirectory() as scratch:
         old.chmod(0o444)
         assert "permission to write it is denied" in made(folder, "old.toml", 5)
         assert old.read_text() == "old"
+    # What a run that was ended has left is removed; a link there is not, nor a file that a run holds.
+    (folder / "below/.wormweekly.0.new").write_text("half of a certificate")
+    (folder / "below/.wormweekly.1.new").symlink_to("certificate.toml")
+    (folder / "below/.wormweekly.2.new").write_text("half of another one")
+    with open(folder / "below/.wormweekly.2.new", encoding="utf-8") as held:
+        fcntl.flock(held, fcntl.LOCK_EX)
+        made(folder, "below/certificate.toml")
+    names = sorted(name for name in os.listdir(folder / "below") if name.endswith(".new"))
+    assert names == [".wormweekly.1.new", ".wormweekly.2.new"], names
+    assert is_certificate(folder / "below/certificate.toml")
+    (folder / "below/.wormweekly.1.new").unlink()
+    (folder / "below/.wormweekly.0.new").write_text("half of a certificate")
+    made(folder, "below/certificate.toml")
+    made(folder, "below/certificate.toml")
+
+    if not os.geteuid():
+        os.chown(old, 65534, 65534)
+        old.chmod(0o600)
+        made(folder, "old.toml")
+        owned = old.stat()
+        assert (owned.st_uid, owned.st_gid, owned.st_mode & 0o7777) == (65534, 65534, 0o600), owned
     left = [name for name in os.listdir(folder) + os.listdir(folder / "below") if name.endswith(".new")]
     assert not left, left

@@ -1,6 +1,7 @@
 //! What a change does to the streams of a picture.
 use crate::clashes::Clash;
 use crate::diagram::{Node, Tone};
+use crate::letters::isolated;
 use crate::slots::Slots;
 use std::alloc::{AllocError, Global};
 
@@ -121,6 +122,7 @@ fn gone_node(alloc: Global, stream: Gone<'_>) -> Result<Node, AllocError> {
     let Gone { reader, name } = stream;
     let title = format!(in alloc; "- {name}")?;
     let mut node = Node::new(alloc, title, Tone::Gone);
+    let reader = isolated(alloc, reader)?;
     node.add_line(format!(in alloc; "of reader {reader}"))?;
     Ok(node)
 }

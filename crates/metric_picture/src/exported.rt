@@ -2,6 +2,7 @@
 use crate::change::{Look, Mark};
 use crate::clashes::Clash;
 use crate::diagram::{Node, Tone};
+use crate::letters::isolated;
 use crate::slots::Slots;
 use metric_catalogue::Catalogue;
 use metric_contents::Key;
@@ -34,6 +35,7 @@ fn reader_node(alloc: Global, config: &Config, reader: usize) -> Result<Node, Al
         Some(reader) => reader.name.as_str(),
         None => "",
     };
+    let name = isolated(alloc, name)?;
     let title = format!(in alloc; "reader {name}")?;
     Ok(Node::new(alloc, title, Tone::Title))
 }
@@ -110,7 +112,7 @@ fn kept_line(alloc: Global, keys: &[Key], kept: &[bool]) -> Result<String, Alloc
     for (key, is_kept) in keys.iter().zip(kept) {
         if *is_kept {
             line.push(' ')?;
-            line.push_str(key.name.as_str())?;
+            line.push_str(isolated(alloc, key.name.as_str())?.as_str())?;
         }
     }
     if !kept.contains(&true) {

@@ -1,5 +1,6 @@
 //! The boxes of instruments.
 use crate::diagram::{Node, Tone};
+use crate::letters::isolated;
 use crate::slots::Slots;
 use metric_catalogue::Catalogue;
 use metric_contents::{Instrument, Key, Kind};
@@ -90,7 +91,7 @@ fn keys_line(alloc: Global, keys: &[Key]) -> Result<String, AllocError> {
     let mut line = String::from_str(alloc, "keys:")?;
     for key in keys {
         line.push(' ')?;
-        line.push_str(key.name.as_str())?;
+        line.push_str(isolated(alloc, key.name.as_str())?.as_str())?;
     }
     Ok(line)
 }
@@ -225,5 +226,6 @@ fn meter_line(alloc: Global, catalogue: &Catalogue, meter: u32) -> Result<String
         Some(meter) => meter.name.as_str(),
         None => "",
     };
+    let name = isolated(alloc, name)?;
     format!(in alloc; "of meter {name}")
 }

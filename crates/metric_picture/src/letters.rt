@@ -1,8 +1,17 @@
 //! Texts as an SVG has them.
-use std::alloc::AllocError;
+use std::alloc::{AllocError, Global};
 
 // So many letters fit in a box.
 const MOST: usize = 42;
+
+/// A name between other words: one that may be written from the right stands between marks that keep these in place.
+pub(crate) fn isolated(alloc: Global, name: &str) -> Result<String, AllocError> {
+    if name.as_bytes().iter().all(|byte| *byte < 128) {
+        String::from_str(alloc, name)
+    } else {
+        format!(in alloc; "\u{2068}{name}\u{2069}")
+    }
+}
 
 /// Puts a text last that fits in a box, with a mark where it was cut.
 pub(crate) fn push_fitting(out: &mut String, text: &str) -> Result<(), AllocError> {

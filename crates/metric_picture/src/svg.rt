@@ -44,7 +44,7 @@ fn push_head(out: &mut String, layout: &Layout) -> Result<(), AllocError> {
     let (width, height) = (layout.width, layout.height);
     write!(
         out,
-        "<svg xmlns=\"http://www.w3.org/2000/svg\" role=\"img\" aria-label=\"{LABEL}\" width=\"{width}\" height=\"{height}\">\n"
+        "<svg xmlns=\"http://www.w3.org/2000/svg\" role=\"img\" aria-label=\"{LABEL}\" viewBox=\"0 0 {width} {height}\" width=\"{width}\" height=\"{height}\">\n"
     )?;
     out.push_str(STYLE)?;
     write!(

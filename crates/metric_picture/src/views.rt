@@ -1,6 +1,7 @@
 //! The boxes of views.
 use crate::diagram::{Node, Tone};
 use crate::instruments::kind_word;
+use crate::letters::isolated;
 use metric_base::{Few, Text};
 use metric_views::{Aggregation, Config, Criteria, Settings, View};
 use std::alloc::{AllocError, Global};
@@ -75,7 +76,7 @@ fn add_text(
     text: &Option<Text>,
 ) -> Result<(), AllocError> {
     if let Some(text) = text {
-        let text = text.as_str();
+        let text = isolated(alloc, text.as_str())?;
         node.add_line(format!(in alloc; "{label} {text}"))?;
     }
     Ok(())

@@ -3,9 +3,13 @@ ghost use Rattle.std.specs.Prelude.{◌≡◌, ◌++◌, OnOk};
 ghost use Rattle.metric_sheet.specs.Html.{html_byte, html_text};
 
 use crate::cell::Cell;
+use crate::columns::letters;
 use crate::sheet::Sheet;
 use metric_text::{push_byte, push_number, push_text};
 use std::alloc::{AllocError, Global};
+
+// A text of so many letters is short.
+const SHORT: usize = 20;
 
 /// Puts a text last as HTML shows it: what would be read as markup stands as a reference, and what moves a terminal's
 /// cursor as `?`. Fails only when out of memory.
@@ -34,14 +38,14 @@ fn push_html_byte(page: &mut Vec<u8>, byte: u8) -> Result<(), AllocError>
 }
 
 /// Puts a table last: what it is of, a row of titles, and one for each row of the sheet. Where `shares` has a number for
-/// a row, a bar shows it behind the row as so many hundredths of what is allowed; without any there is no such column.
-/// Fails only when out of memory.
+/// a row, a bar shows it behind the row as so many ten-thousandths of what is allowed; without any there is no such
+/// column. A short text stands in one line, and a flag that is set has a class of its own. Fails only when out of memory.
 pub fn push_html_table<S: Sheet>(
     alloc: Global,
     page: &mut Vec<u8>,
     caption: &str,
     sheet: &S,
-    shares: &[u32],
+    shares: &[u64],
 ) -> Result<(), AllocError> {
     push_text(
         page,
@@ -74,7 +78,7 @@ fn push_row(
     alloc: Global,
     page: &mut Vec<u8>,
     row: &[Cell],
-    share: Option<u32>,
+    share: Option<u64>,
 ) -> Result<(), AllocError> {
     push_text(page, "<tr>")?;
     for cell in row {
@@ -88,29 +92,43 @@ fn push_row(
 
 fn push_cell(alloc: Global, page: &mut Vec<u8>, cell: &Cell) -> Result<(), AllocError> {
     let shown = cell.shown(alloc)?;
-    let begin = if cell.is_number() {
-        "<td class=\"number\">"
-    } else {
-        "<td dir=\"auto\">"
-    };
-    push_text(page, begin)?;
+    push_text(page, begin_of(cell, shown.as_str()))?;
     push_html_text(page, shown.as_str())?;
     push_text(page, "</td>")
 }
 
+// How a cell begins.
+fn begin_of(cell: &Cell, shown: &str) -> &'static str {
+    match cell {
+        Cell::Number(_) => "<td class=\"number\">",
+        Cell::Flag(true) => "<td class=\"yes\">",
+        _ if letters(shown) <= SHORT => "<td class=\"short\" dir=\"auto\">",
+        _ => "<td dir=\"auto\">",
+    }
+}
+
 // A bar, and its number for those who do not see it: in hundredths, or how many times what is allowed.
-fn push_share(page: &mut Vec<u8>, share: u32) -> Result<(), AllocError> {
+fn push_share(page: &mut Vec<u8>, share: u64) -> Result<(), AllocError> {
+    let hundredths = share.div_ceil(100);
     push_text(
         page,
         "<td class=\"number\"><meter aria-label=\"full\" max=\"101\" low=\"70\" high=\"100\" optimum=\"0\" value=\"",
     )?;
-    push_number(page, u64::from(share.min(101)))?;
+    push_number(page, hundredths.min(101))?;
     push_text(page, "\"></meter> ")?;
-    if share < 200 {
-        push_number(page, u64::from(share))?;
+    if hundredths < 200 {
+        push_text(
+            page,
+            if 0 < share && share < 100 {
+                "under "
+            } else {
+                ""
+            },
+        )?;
+        push_number(page, hundredths)?;
         push_text(page, " %</td>")
     } else {
-        push_number(page, u64::from(share / 100))?;
+        push_number(page, share / 10_000)?;
         push_text(page, " times</td>")
     }
 }

@@ -4,8 +4,10 @@ use metric_base::Text;
 use metric_command_lines::is_standard;
 use metric_io::{ReadFault, StdSource, read_all};
 use std::alloc::{AllocError, Global};
-use std::fs::{self, File, OpenOptions, Permissions};
+use std::fs::{self, File, Metadata, OpenOptions, TryLockError};
 use std::io::{Error, ErrorKind, Read, Write};
+use std::os::unix::fs::{MetadataExt, fchown};
+use std::os::unix::io::AsFd;
 use wormweekly_commands::{Folder, Unread, Unwritten};
 
 // The file that standard input is, which says why it is not read.
@@ -16,6 +18,9 @@ const MOST_BYTES: u64 = 67_108_864;
 
 // How many names are tried for a file that is written beside the one that it replaces.
 const MOST_NAMES: u32 = 1_000;
+
+// Under so many of these names what an ended run has left is looked for: a run takes the first that is free.
+const MOST_LEFT: u32 = 16;
 
 /// The files of the machine, and standard input as the file at `-`.
 #[derive(Clone, Copy)]
@@ -50,7 +55,7 @@ impl Folder for Disk<'_> {
 
     fn write(&mut self, path: &str, text: &[u8]) -> Result<(), Unwritten> {
         let written = match fs::metadata(self.rt, path) {
-            Ok(found) if found.is_file() => self.write_over(path, text, found.permissions()),
+            Ok(found) if found.is_file() => self.write_over(path, text, found),
             // A terminal, a pipe or a directory: nothing can stand in its place.
             Ok(_) => fs::write(self.rt, path, text),
             Err(error) if error.kind() == ErrorKind::NotFound => self.write_new(path, text),
@@ -105,14 +110,14 @@ impl Disk<'_> {
         }
     }
 
-    // Puts a file in the place of one that is there and may be written, with its mode, and of none of the links that
-    // lead to it.
-    fn write_over(&self, path: &str, text: &[u8], mode: Permissions) -> Result<(), Error> {
+    // Puts a file in the place of one that is there and may be written, with its owner and its mode, and of none of the
+    // links that lead to it.
+    fn write_over(&self, path: &str, text: &[u8], old: Metadata) -> Result<(), Error> {
         let found = fs::canonicalize(self.rt, path)?;
         let _writable = OpenOptions::new()
             .write(true)
             .open(self.rt, found.as_str())?;
-        self.replace(found.as_str(), text, Some(mode))
+        self.replace(found.as_str(), text, Some(old))
     }
 
     // Makes a file that is not there; a link to none is followed.
@@ -124,20 +129,52 @@ impl Disk<'_> {
         }
     }
 
-    // Writes a file beside a path, and puts it there once it is whole.
-    fn replace(&self, path: &str, text: &[u8], mode: Option<Permissions>) -> Result<(), Error> {
+    // Writes a file beside a path, and puts it there once it is whole. What ended runs have left beside it is removed.
+    fn replace(&self, path: &str, text: &[u8], old: Option<Metadata>) -> Result<(), Error> {
+        for number in 0..MOST_LEFT {
+            self.remove_left(self.beside(path, number)?.as_str());
+        }
         for number in 0..MOST_NAMES {
             let beside = self.beside(path, number)?;
-            match fs::File::create_new(self.rt, beside.as_str()) {
-                Ok(file) => {
-                    let made = fill(file, text, mode);
-                    return self.put_there(made, beside.as_str(), path);
+            match File::create_new(self.rt, beside.as_str()) {
+                Ok(mut file) => {
+                    if self.is_held(&file, beside.as_str()) {
+                        let made = fill(&mut file, text, old);
+                        return self.put_there(made, beside.as_str(), path);
+                    }
                 }
                 Err(error) if error.kind() == ErrorKind::AlreadyExists => {}
                 Err(error) => return Err(error),
             }
         }
         Err(Error::from(ErrorKind::AlreadyExists))
+    }
+
+    // Removes a file beside a path that no run holds, since the one that made it was ended.
+    fn remove_left(&self, beside: &str) {
+        if let Ok(found) = fs::symlink_metadata(self.rt, beside)
+            && found.is_file()
+            && let Ok(file) = fs::open(self.rt, beside)
+            && file.try_lock().is_ok()
+            && self.is_at(&file, beside)
+        {
+            let _removed = fs::remove_file(self.rt, beside);
+        }
+    }
+
+    // Whether a new file is still at its path once this run holds it. Where the disk knows no locks, nobody holds any.
+    fn is_held(&self, file: &File, path: &str) -> bool {
+        match file.try_lock() {
+            Err(TryLockError::WouldBlock) => false,
+            _ => self.is_at(file, path),
+        }
+    }
+
+    fn is_at(&self, file: &File, path: &str) -> bool {
+        match (file.metadata(), fs::symlink_metadata(self.rt, path)) {
+            (Ok(own), Ok(found)) => own.ino() == found.ino() && own.dev() == found.dev(),
+            _ => false,
+        }
     }
 
     // The path of a file in the folder of a path, whose name is short however long that path is.
@@ -163,10 +200,11 @@ impl Disk<'_> {
     }
 }
 
-// Writes a new file to the disk, with a mode from the first byte on.
-fn fill(mut file: File, text: &[u8], mode: Option<Permissions>) -> Result<(), Error> {
-    if let Some(mode) = mode {
-        file.set_permissions(mode)?;
+// Writes a new file to the disk, with the mode of an old one from the first byte on, and its owner where that may be.
+fn fill(file: &mut File, text: &[u8], old: Option<Metadata>) -> Result<(), Error> {
+    if let Some(old) = old {
+        let _owned = fchown(file.as_fd(), Some(old.uid()), Some(old.gid()));
+        file.set_permissions(old.permissions())?;
     }
     file.write_all(text)?;
     file.sync_all()

@@ -7,8 +7,8 @@ use std::time::Instant;
 // Takes away the longest line.
 const BLANK: &[u8] = b"\r                              \r";
 
-/// What the program is at, in one line of standard error, and only where that is a terminal: which file it reads, then
-/// what it makes of them. A replay into a file or a pipe shows once a second how many lines it has written.
+/// What the program is at, in one line of standard error, and only where that is a terminal and standard output is not:
+/// which file it reads, then what it makes of them. A replay shows once a second how many lines it has written.
 #[derive(Drop)]
 pub struct Progress<'a> {
     rt: &'a HostRuntime,
@@ -26,8 +26,8 @@ pub struct Progress<'a> {
 impl<'a> Progress<'a> {
     /// That of a request, at its beginning.
     pub fn new(rt: &'a HostRuntime, request: &Result<Request, RequestFault>) -> Progress<'a> {
-        let is_shown = rt.stderr().is_terminal();
-        let is_counted = is_shown && writes_lines(request) && !rt.stdout().is_terminal();
+        let is_shown = rt.stderr().is_terminal() && !rt.stdout().is_terminal();
+        let is_counted = is_shown && writes_lines(request);
         Progress {
             rt,
             is_shown,

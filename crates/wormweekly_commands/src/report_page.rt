@@ -29,16 +29,19 @@ const LEGEND: &str = "</div>
 const STYLE: &str = "</title>
 <style>
 :root { color-scheme: light dark }
-body { font: 15px/1.5 system-ui, sans-serif; max-width: 80em; margin: 0 auto; padding: 1em }
+body { font: 15px/1.5 system-ui, sans-serif; max-width: 100em; margin: 0 auto; padding: 1em }
 h1 { font-size: 1.4em }
 h2 { font-size: 1.1em; margin-top: 2em; border-bottom: 1px solid #8888 }
 .table, .picture { overflow-x: auto }
 table { border-collapse: collapse; font-size: 0.9em }
 th, td { text-align: left; padding: 0.2em 0.8em 0.2em 0; border-bottom: 1px solid #8884 }
-td { min-width: 4em; max-width: 30em; overflow-wrap: anywhere }
+td { min-width: 10em; max-width: 30em; overflow-wrap: anywhere }
 caption { text-align: left; padding: 0.5em 0 }
-th, td.number { white-space: nowrap }
-td.number { min-width: 0; text-align: right; font-variant-numeric: tabular-nums }
+th, .number, .short { white-space: nowrap }
+.number, .short, .yes { min-width: 0 }
+.number { text-align: right; font-variant-numeric: tabular-nums }
+.yes { font-weight: bold; color: #c00; color: light-dark(#b00, #f88) }
+tr:has(.yes) { background: #c001 }
 meter { width: 6em }
 .refused { color: #c00; color: light-dark(#b00, #f88) }
 .picture { background: #fff; border: 1px solid #8884 }
@@ -47,10 +50,12 @@ meter { width: 6em }
   body { max-width: none; padding: 0; font-size: 8pt }
   .table, .picture { overflow: visible }
   td { min-width: 0; padding-right: 0.4em }
-  th, td.number { white-space: normal }
+  th, .number, .short { white-space: normal }
   tr { break-inside: avoid }
   meter { display: none }
-  svg { max-width: 100%; height: auto }
+  h2 { break-after: avoid }
+  .picture { border: none }
+  svg { max-width: 100%; max-height: 16cm; width: auto; height: auto }
 }
 </style>
 ";
@@ -165,7 +170,7 @@ fn push_changes(
         comparison,
         changes: comparison.changes.as_slice(),
     };
-    let caption = "What the old files give and the new ones do not, or otherwise";
+    let caption = "Each row is a change from the old files; those that break something are marked";
     push_rows(alloc, page, caption, &sheet, "<p>Nothing differs.</p>\n")
 }
 

@@ -64,7 +64,8 @@ fn words_of(misuse: Misuse) -> &'static str {
         Misuse::Deny => "error: '--deny' knows no such kind; the help of the command lists them\n",
         Misuse::Allow =>
             "error: '--allow' knows no such kind; the help of the command lists them\n",
-        Misuse::Outlet => "error: '--for' knows 'prometheus' and 'otlp' alone\n",
+        Misuse::Outlet =>
+            "error: '--for' knows 'prometheus' and 'otlp' alone, and behind '=' a reader\n",
         Misuse::Form => "error: '--as' knows no such form; try 'wormweekly replay --help'\n",
         Misuse::Audit => "error: '--audit' audits replies, and with '--as' none are printed\n",
         Misuse::Resource => "error: '--resource' belongs to '--as'\n",
@@ -213,8 +214,8 @@ fn told_overwritten(alloc: Global, files: &Files, role: Role) -> Result<Told, Al
 // The path of the file to write to.
 fn output_of(files: &Files) -> &str {
     match &files.output {
-        Some(path) => path.as_str(),
-        None => "",
+        Some(path) if !path.as_str().is_empty() => path.as_str(),
+        _ => "''",
     }
 }
 
@@ -335,29 +336,47 @@ pub(crate) fn pair_of<'t>(files: &'t Files, texts: &'t Texts, declared: &'t Decl
 // The line of the script at which it is none; of one that no line starts, no place.
 fn told_script(alloc: Global, files: &Files, texts: &Texts, line: u64) -> Result<Told, AllocError> {
     let path = path_of(files, Role::Script);
-    if line > lines_of(&texts.script) {
-        return Told::of_file(
-            alloc,
-            path,
-            "no start line: a script begins with one, such as 'start 0'",
-        );
+    let text = match &texts.script {
+        Some(script) => script.as_str(),
+        None => "",
+    };
+    let place = usize::try_from(line.saturating_sub(1)).unwrap_or(usize::MAX);
+    match text.lines().nth(place) {
+        None => Told::of_file(alloc, path, UNSTARTED),
+        Some(_) if is_begin(text, place) => {
+            Told::of_line(alloc, path, place.saturating_add(1), UNSTARTED)
+        }
+        Some(line) => Told::of_line(alloc, path, place.saturating_add(1), cause_of_line(line)),
     }
-    let line = usize::try_from(line).unwrap_or(usize::MAX);
-    Told::of_line(
-        alloc,
-        path,
-        line,
-        "this line is no event, or none that may stand here",
-    )
 }
 
-// How many lines a script has.
-fn lines_of(script: &Option<Text>) -> u64 {
-    match script {
-        Some(text) => text.as_str().lines().count() as u64,
-        None => 0,
+// Whether no line of a script before this place says anything.
+fn is_begin(script: &str, place: usize) -> bool {
+    script
+        .lines()
+        .take(place)
+        .all(|line| line.is_empty() || line.starts_with('#'))
+}
+
+// Why a line of a script is no event, as far as its ends and its first word say.
+fn cause_of_line(line: &str) -> &'static str {
+    if line.starts_with(' ') || line.ends_with(' ') {
+        return "this line is no event: a space stands at its end or its beginning";
+    }
+    match line.split(' ').next() {
+        Some("record") => RECORD,
+        Some("collect") => "this line is no event 'collect READER INSTRUMENT TIME'",
+        Some("grant") => "this line is no event 'grant RECORDER INSTRUMENT RECORDINGS'",
+        Some("close") => "this line is no event 'close INSTRUMENT'",
+        Some("start") => "a script has one line 'start TIME', and this is another",
+        _ => "this line is no event: one begins with 'record', 'collect', 'grant' or 'close'",
     }
 }
+
+const UNSTARTED: &str = "no start line: a script begins with one, such as 'start 0'";
+
+const RECORD: &str =
+    "this line is no event 'record RECORDER INSTRUMENT VALUE \"KEY\"=VALUE', with as many attributes as wanted";
 
 /// Puts what is told of an exposure last, with the line that it is in.
 pub(crate) fn push_exposure(

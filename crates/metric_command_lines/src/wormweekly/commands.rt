@@ -155,7 +155,7 @@ fn over_table<'a>(
     let command = over_pair(alloc, name, about, example);
     let help = "Print a line of JSON for each row";
     let command = with_argument(command, flag(alloc, "json", help));
-    let help = "How wide the table may be; 0: as the terminal";
+    let help = "How wide the table may be; 0: as the variable COLUMNS says, else as wide as it is";
     with_argument(command, number(alloc, "width", help, 0, MOST_WIDTH, "0"))
 }
 
