@@ -7,7 +7,7 @@ use Rattle.metric_advice.specs.declared.remark.Remark.TheVariants.{UnknownKey, U
 use Rattle.metric_advice.specs.declared.remark.Remark.TheVariants.{Unrecorded, OverBudget, NoBudget}
 use Rattle.metric_advice.specs.declared.remark.Remark.TheVariants.{NoRecorder, NoReader}
 use Rattle.metric_advice.specs.declared.remark.Remark.TheVariants.{NothingAllowed, OneValue}
-use Rattle.metric_advice.specs.declared.remark.Remark.TheVariants.{OneBucket, UnusedValue}
+use Rattle.metric_advice.specs.declared.remark.Remark.TheVariants.{OneBucket, FarBoundaries, UnusedValue}
 use Rattle.metric_advice.specs.declared.remark.Remark.TheVariants.{SaysNothing, KeptAndExcluded}
 use Rattle.metric_advice.specs.declared.remark.Remark.TheVariants.{NoStream, LevelDelta}
 
@@ -25,6 +25,7 @@ kind_of (NothingAllowed instrument) = codes "nothing-allowed"
 kind_of (OneValue instrument) = codes "one-value"
 kind_of (UnusedValue instrument key value) = codes "unused-value"
 kind_of (OneBucket stream) = codes "one-bucket"
+kind_of (FarBoundaries stream) = codes "far-boundaries"
 kind_of (OverBudget instrument limit) = codes "over-budget"
 kind_of (NoBudget recorder) = codes "no-budget"
 kind_of NoRecorder = codes "no-recorder"
@@ -41,6 +42,7 @@ is_kind name =
     || bytes_eq name (codes "kept-and-excluded") || bytes_eq name (codes "unrecorded")
     || bytes_eq name (codes "nothing-allowed") || bytes_eq name (codes "one-value")
     || bytes_eq name (codes "unused-value") || bytes_eq name (codes "one-bucket")
+    || bytes_eq name (codes "far-boundaries")
     || bytes_eq name (codes "over-budget") || bytes_eq name (codes "no-budget")
     || bytes_eq name (codes "no-recorder") || bytes_eq name (codes "no-stream")
     || bytes_eq name (codes "level-delta") || bytes_eq name (codes "no-reader")

@@ -39,11 +39,6 @@ unfoldable pub selection_of : Contents → Config → ℕ → List Bool
 selection_of contents config view =
     map (λ instrument. is_selected contents config instrument view) (all_instruments contents)
 
--- no instrument is selected
-abbrev pub selection_remarks : List Bool → ℕ → List Remark
-selection_remarks selection view =
-    when (not (list_any (λ selected. selected) selection)) (remarks.SelectsNothing view)
-
 abbrev pub declares_with : Option Instrument → List ℕ → Bool
 declares_with None name = false
 declares_with (Some instrument) name = list_any (is_key name) instrument.keys
@@ -74,11 +69,18 @@ list_remarks contents selection view list None = []
 list_remarks contents selection view list (Some keys) =
     key_remarks contents selection view list keys
 
--- what a view selects, keeps and excludes
+-- what a view keeps and excludes
+abbrev pub lists_remarks : Contents → List Bool → Settings → ℕ → List Remark
+lists_remarks contents selection settings view =
+    list_remarks contents selection view Keep settings.keep
+    ++ list_remarks contents selection view Exclude settings.exclude
+
+-- it selects nothing, or what it keeps and excludes
 unfoldable pub settings_remarks : Contents → List Bool → Settings → ℕ → List Remark
 settings_remarks contents selection settings view =
-    selection_remarks selection view ++ (list_remarks contents selection view Keep settings.keep
-    ++ list_remarks contents selection view Exclude settings.exclude)
+    if list_any (λ selected. selected) selection
+    then lists_remarks contents selection settings view
+    else remarks.SelectsNothing view ∷ []
 
 abbrev pub is_view : ℕ → Option ℕ → Bool
 is_view view None = false

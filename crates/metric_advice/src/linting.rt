@@ -3,8 +3,8 @@ ghost use Rattle.std.specs.Prelude.{◌≡◌, ◌==◌, ◌<◌, ◌≤◌, ◌
 ghost use Rattle.std.specs.List.{flat_map, list_all, list_any};
 ghost use Rattle.metric_contents.specs.Budgets.{amount_of};
 ghost use Rattle.metric_resolve.specs.Applying.{all_instruments, all_views};
-ghost use Rattle.metric_advice.specs.Remarks.{AreRemarks, all_recorder_remarks, instrument_remarks, is_idle, is_unrecorded, key_remarks, list_remarks, recorder_remarks, remark_of, room_remarks};
-ghost use Rattle.metric_advice.specs.Remarks.{selection_remarks, own_remarks, settings_remarks, view_remarks};
+ghost use Rattle.metric_advice.specs.Remarks.{AreRemarks, all_recorder_remarks, instrument_remarks, is_idle, is_unrecorded, key_remarks, list_remarks, lists_remarks, recorder_remarks, remark_of, room_remarks};
+ghost use Rattle.metric_advice.specs.Remarks.{own_remarks, settings_remarks, view_remarks};
 ghost use Rattle.metric_advice.specs.Values.{stream_remarks};
 ghost use Rattle.metric_advice.specs.When.{when};
 
@@ -24,11 +24,11 @@ use metric_views::{Config, Settings};
 use std::alloc::{AllocError, Global};
 
 /// Everything that looks like a mistake in a catalogue and a config, in this order: unfit views and collisions, as
-/// `resolve` tells them; then of each view whether it selects nothing, each key of `keep` and of `exclude` that no
-/// selected instrument declares, boundaries without effect, whether it says nothing, and each key that it keeps and
+/// `resolve` tells them; then of each view whether it selects nothing, else each key of `keep` and of `exclude` that
+/// no selected instrument declares, boundaries without effect, whether it says nothing, and each key that it keeps and
 /// excludes; then of each instrument whether nobody can record on it, whether it allows nothing or one value alone,
 /// each value that no allowed combination has, and budgets and spare together above its headroom; then each stream of
-/// which one bucket takes all; then of each recorder whether it has no budget, and that there is no recorder; then of
+/// which one bucket takes all, or whose boundaries are far from its values; then of each recorder whether it has no budget, and that there is no recorder; then of
 /// each reader whether it has no stream, and delta streams of up-down counters and of gauges, and that there is no
 /// reader. Fails only when out of memory.
 pub fn lint(
@@ -126,7 +126,8 @@ fn has_unused_boundaries(config: &Config, settings: &Settings, makes_histogram: 
     settings.boundaries.is_some() && !(makes_histogram || config.readers().is_empty())
 }
 
-// Puts the remarks on what a view selects, keeps and excludes last.
+// Puts it last that a view selects nothing, or else the remarks on what it keeps and excludes.
+#[tactic(auto, unfolding(crate::specs::Remarks::settings_remarks))]
 fn add_settings(
     remarks: &mut Items<Remark>,
     catalogue: &Catalogue,
@@ -137,8 +138,25 @@ fn add_settings(
     ensures { OnOk result (remarks.new ≡ remarks.old
         ++ settings_remarks catalogue.now selected.now settings.now view) }
 {
+    if has_selected(selected) {
+        add_lists(remarks, catalogue, selected, settings, view)
+    } else {
+        remarks.push(Remark::SelectsNothing { view })
+    }
+}
+
+// Puts the remarks on what a view keeps and excludes last.
+fn add_lists(
+    remarks: &mut Items<Remark>,
+    catalogue: &Catalogue,
+    selected: &[bool],
+    settings: &Settings,
+    view: u32,
+) -> Result<(), AllocError>
+    ensures { OnOk result (remarks.new ≡ remarks.old
+        ++ lists_remarks catalogue.now selected.now settings.now view) }
+{
     let list = KeyList::Keep;
-    add_selection(remarks, selected, view)?;
     add_list(
         remarks,
         catalogue,
@@ -168,18 +186,6 @@ pub(crate) fn add_when(
         remarks.push(remark)?;
     }
     Ok(())
-}
-
-// Puts it last that a view selects nothing, where no instrument is selected.
-fn add_selection(
-    remarks: &mut Items<Remark>,
-    selected: &[bool],
-    view: u32,
-) -> Result<(), AllocError>
-    ensures { OnOk result (remarks.new ≡ remarks.old ++ selection_remarks selected.now view) }
-{
-    let selects = has_selected(selected);
-    add_when(remarks, !selects, Remark::SelectsNothing { view })
 }
 
 fn has_selected(selected: &[bool]) -> bool

@@ -86,6 +86,12 @@ pub enum Remark {
         /// The number of the stream.
         stream: u32,
     },
+    /// Most boundaries of the stream are outside the range of its instrument, or the range ends a hundred times beyond
+    /// the last one, so that they look like numbers of another unit.
+    FarBoundaries {
+        /// The number of the stream.
+        stream: u32,
+    },
     /// The budgets of the instrument and its spare are together more than is safe.
     OverBudget {
         /// The number of the instrument.
@@ -155,6 +161,7 @@ impl Remark {
             Remark::OneValue { .. } => "one-value",
             Remark::UnusedValue { .. } => "unused-value",
             Remark::OneBucket { .. } => "one-bucket",
+            Remark::FarBoundaries { .. } => "far-boundaries",
             Remark::OverBudget { .. } => "over-budget",
             Remark::NoBudget { .. } => "no-budget",
             Remark::NoRecorder => "no-recorder",
@@ -183,6 +190,7 @@ pub fn is_kind(name: &str) -> bool
             | "one-value"
             | "unused-value"
             | "one-bucket"
+            | "far-boundaries"
             | "over-budget"
             | "no-budget"
             | "no-recorder"
@@ -227,6 +235,9 @@ impl fmt::Display for Remark {
             } => write_unused(f, instrument, key, value),
             Remark::OneBucket { stream } => {
                 write!(f, "one bucket of stream {stream} takes each value")
+            }
+            Remark::FarBoundaries { stream } => {
+                write!(f, "boundaries of stream {stream} are far from its values")
             }
             Remark::OverBudget { instrument, .. } => {
                 write!(f, "instrument {instrument} has larger budgets than is safe")

@@ -80,6 +80,8 @@ place_of_remark streams (remarks.OneValue instrument) = Catalogue (Instrument in
 place_of_remark streams (remarks.UnusedValue instrument key value) =
     Catalogue (Instrument instrument)
 place_of_remark streams (remarks.OneBucket stream) = place_of_stream (slice_get streams stream)
+place_of_remark streams (remarks.FarBoundaries stream) =
+    place_of_stream (slice_get streams stream)
 place_of_remark streams (remarks.OverBudget instrument limit) =
     place_of_limit streams instrument limit
 place_of_remark streams (remarks.NoBudget recorder) = Catalogue (Recorder recorder)

@@ -1,4 +1,4 @@
-//! Buckets that tell nothing.
+//! Buckets that tell nothing, or little.
 ghost use Rattle.std.specs.Prelude.{◌≡◌, IfOk, slice_get};
 ghost use Rattle.metric_diagnosis.specs.Places.{place_of_stream, streams_in};
 
@@ -6,15 +6,17 @@ use crate::places::{Place, told};
 use crate::sources::Pair;
 use crate::stream_places::stream_place;
 use crate::told::told_stream;
+use metric_advice::Remark;
 use metric_contents::Instrument;
 use metric_resolve::resolve_streams;
-use metric_views::Stream;
+use metric_views::{Stream, StreamAggregation};
 use std::alloc::{AllocError, Global};
 
-// What is told of a stream of which one bucket takes each value.
+// What is told of a stream of which one bucket takes each value, or whose boundaries are far from its values.
 pub(crate) fn told_bucket(
     alloc: Global,
     pair: Pair<'_>,
+    remark: Remark,
     number: u32,
 ) -> Result<(Place, String), AllocError>
     ensures { IfOk result (λ told. told.0
@@ -24,23 +26,54 @@ pub(crate) fn told_bucket(
     let stream = streams.as_slice().get(number as usize);
     told(
         stream_place(streams.as_slice(), number),
-        words_of(alloc, pair, number, stream),
+        words_of(alloc, pair, remark, number, stream),
     )
 }
 
 fn words_of(
     alloc: Global,
     pair: Pair<'_>,
+    remark: Remark,
     number: u32,
     stream: Option<&Stream>,
 ) -> Result<String, AllocError> {
     let Some(stream) = stream else {
-        return format!(in alloc; "one bucket of stream {number} takes each value");
+        return format!(in alloc; "{remark}");
     };
     let instruments = pair.catalogue.instruments();
     match instruments.get(stream.instrument as usize) {
+        Some(instrument) if matches!(remark, Remark::FarBoundaries { .. }) => {
+            words_of_far(alloc, pair, number, stream, instrument)
+        }
         Some(instrument) => words_in_range(alloc, pair, number, stream, instrument),
-        None => format!(in alloc; "one bucket of stream {number} takes each value"),
+        None => format!(in alloc; "{remark}"),
+    }
+}
+
+fn words_of_far(
+    alloc: Global,
+    pair: Pair<'_>,
+    number: u32,
+    stream: &Stream,
+    instrument: &Instrument,
+) -> Result<String, AllocError> {
+    let told = told_stream(alloc, pair, number, stream)?;
+    let (lo, hi) = (instrument.lo, instrument.hi);
+    let (first, last) = ends_of(&stream.aggregation);
+    format!(in alloc;
+        "{told}: its values are from {lo} to {hi}, and its boundaries from {first} to {last}: are they in one unit?"
+    )
+}
+
+// The first boundary and the last one.
+fn ends_of(aggregation: &StreamAggregation) -> (i64, i64) {
+    match aggregation {
+        StreamAggregation::Sum | StreamAggregation::LastValue => (0, 0),
+        StreamAggregation::Histogram(boundaries) => {
+            let boundaries = boundaries.get().as_slice();
+            let first = boundaries.first().copied();
+            (first.unwrap_or(0), boundaries.last().copied().unwrap_or(0))
+        }
     }
 }
 

@@ -88,7 +88,9 @@ fn told_of(alloc: Global, pair: Pair<'_>, remark: Remark) -> Result<(Place, Stri
             Place::Catalogue(CataloguePlace::Instrument(instrument)),
             words_of_unused(alloc, pair, instrument, key, value),
         ),
-        Remark::OneBucket { stream } => told_bucket(alloc, pair, stream),
+        Remark::OneBucket { stream } | Remark::FarBoundaries { stream } => {
+            told_bucket(alloc, pair, remark, stream)
+        }
         Remark::OverBudget { instrument, limit } => told_limit(alloc, pair, instrument, limit),
         Remark::NoBudget { recorder } => told(
             Place::Catalogue(CataloguePlace::Recorder(recorder)),

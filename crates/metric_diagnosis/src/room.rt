@@ -10,7 +10,7 @@ use crate::stream_places::series_place;
 use crate::told::{ToldStream, instrument_of, told_stream};
 use metric_advice::{Headroom, Limit, headrooms, sets_of};
 use metric_bounds::{amount, high, low};
-use metric_contents::Instrument;
+use metric_contents::{Instrument, Kind};
 use metric_resolve::resolve_streams;
 use metric_views::Stream;
 use std::alloc::{AllocError, Global};
@@ -44,9 +44,18 @@ fn words_of_room(
 ) -> Result<String, AllocError> {
     let Headroom { total, most, .. } = room;
     let why = why_of(total, reason, instrument);
+    let remedy = remedy_of(reason, instrument.kind);
     format!(in alloc;
-        "{named}: its budgets and its spare are {total} recordings together, and at most {most} are safe: {why}"
+        "{named}: its budgets and its spare are {total} recordings together, and at most {most} are safe: {why}{remedy}"
     )
+}
+
+// What makes room for more, where its budgets need not be lower.
+fn remedy_of(limit: Limit, kind: Kind) -> &'static str {
+    match (limit, kind) {
+        (Limit::Amount, Kind::Gauge) => "; a greater unit, as KiBy for By, makes room for more",
+        _ => "",
+    }
 }
 
 // Why an instrument may not be recorded so often.
@@ -76,7 +85,11 @@ fn why_of(total: u128, limit: Limit, instrument: &Instrument) -> Why {
 fn amount_of(count: u64, instrument: &Instrument) -> Why {
     let (lo, hi) = (instrument.lo, instrument.hi);
     let apart = if lo <= hi { amount(count, lo, hi) } else { 0 };
-    Why::Above("how far two sums are apart", apart, u128::from(u64::MAX))
+    let what = match instrument.kind {
+        Kind::Gauge => "how far its settings are above the least value, added up,",
+        _ => "how far two sums are apart",
+    };
+    Why::Above(what, apart, u128::from(u64::MAX))
 }
 
 impl fmt::Display for Why {

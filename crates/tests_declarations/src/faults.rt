@@ -150,6 +150,10 @@ const REMARKS: &[(Remark, &str)] = &[
         "one bucket of stream 2 takes each value",
     ),
     (
+        Remark::FarBoundaries { stream: 3 },
+        "boundaries of stream 3 are far from its values",
+    ),
+    (
         Remark::OverBudget {
             instrument: 0,
             limit: Limit::SumHigh,

@@ -52,6 +52,7 @@ const LINTS: &str = "Kinds, each to be named as often as wanted:
   one-value          an instrument of one value, which tells nothing
   unused-value       a value that no allowed combination has
   one-bucket         boundaries of which one bucket takes each value
+  far-boundaries     boundaries that look like numbers of another unit
   over-budget        budgets above what is safe
   no-budget          a recorder without any budget
   no-recorder        a catalogue without a recorder

@@ -1,10 +1,8 @@
 -- one stream more
-use Rattle.std.proofs.Common.{Bool, ◌++◌, List, take_all, ap, ◌∙◌, arith}
+use Rattle.std.proofs.Common.{◌++◌, List, take_all, ap, ◌∙◌, arith}
 use Rattle.std.specs.List.{enumerate_from, flat_map}
 use Rattle.metric_views.specs.declared.stream.Stream.{Stream}
-use Rattle.metric_advice.specs.declared.remark.Remark.TheVariants.{OneBucket}
 use Rattle.metric_advice.specs.Values.{stream_remark}
-use Rattle.metric_advice.specs.When.{when}
 use Rattle.metric_advice.proofs.Lists.{numbered_turn}
 use Rattle.metric_advice.proofs.values.add_streams.Goals as goal
 
@@ -13,9 +11,8 @@ loop-number-preserved c =
     let contents = c.args.catalogue.now in
     let n = c.loop-number.number in
     let before = c.loop-number.remarks in
-    numbered_turn (stream_remark contents) c.args.streams.now n c.index-streams-number.result c.args.remarks.now before c.add_when.new.remarks (omega arith) c.index-streams-number.is
-    c.loop-number.invariant
-    (c.in_ok-add_when.ensures ∙ ap (λ (b : Bool). before ++ when b (OneBucket n)) c.tells_nothing.ensures)
+    numbered_turn (stream_remark contents) c.args.streams.now n c.index-streams-number.result c.args.remarks.now before c.add_stream.new.remarks (omega arith) c.index-streams-number.is
+    c.loop-number.invariant c.in_ok-add_stream.ensures
 
 pub returns : goal.returns
 returns c =
