@@ -4,6 +4,7 @@ import json
 import re
 import subprocess
 import sys
+import tempfile
 from pathlib import Path
 
 PROGRAM = sys.argv[2]
@@ -30,6 +31,10 @@ FAULTS = {
     "show catalogue.toml nowhere.toml": 3,
     "headroom config.toml config.toml": 3,
     "diff misspelled.toml config.toml catalogue.toml config.toml": 3,
+    "make misspelled.toml config.toml": 3,
+    "make catalogue.toml narrow.toml": 1,
+    "check catalogue.toml config.toml nowhere.toml": 3,
+    "check catalogue.toml config.toml format.toml": 1,
 }
 IS = {
     "text": lambda value: isinstance(value, str),
@@ -56,8 +61,15 @@ def wrong_of(fields, row):
 
 
 def main():
+    with tempfile.NamedTemporaryFile() as certificate:
+        made = ["make", "catalogue.toml", "config.toml", "-o", certificate.name, "--json"]
+        subprocess.run([PROGRAM, *made], cwd=TOP / "crates/wormweekly/data", check=True, timeout=60)
+        compare([*LINES, f"check catalogue.toml config.toml {certificate.name}", *FAULTS])
+
+
+def compare(lines):
     fields, wrong = schema(), []
-    for line in [*LINES, *FAULTS]:
+    for line in lines:
         command = line.split()[0]
         ran = subprocess.run(
             [PROGRAM, *line.split(), "--json"], cwd=TOP / "crates/wormweekly/data", capture_output=True, text=True, timeout=60, check=False
@@ -68,7 +80,7 @@ def main():
         wrong += [f"{line}: {len(rows)} faults, and {ran.stderr!r}"] * (line in FAULTS and (len(rows), ran.stderr) != (1, ""))
         wrong += [f"{line}: the first line {first}"] * (first != {"schema": 1})
         wrong += [f"{line}: {told}" for row in rows for told in wrong_of(wanted, row)]
-    print("\n".join([*wrong, f"{len(LINES) + len(FAULTS)} command lines, {len(wrong)} faults of their lines of JSON"]))
+    print("\n".join([*wrong, f"{len(lines)} command lines, {len(wrong)} faults of their lines of JSON"]))
     sys.exit(bool(wrong))
 
 

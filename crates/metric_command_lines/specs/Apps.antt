@@ -74,10 +74,12 @@ abbrev pub show_app : App
 show_app = table_app (codes "show")
 
 abbrev pub make_app : App
-make_app = with_rule (pair_app (codes "make")) output_rule
+make_app = with_rule (with_rule (pair_app (codes "make")) output_rule) (flag_rule (codes "json"))
 
 abbrev pub check_app : App
-check_app = with_rule (pair_app (codes "check")) (file_rule (codes "certificate") true)
+check_app =
+    with_rule (with_rule (pair_app (codes "check")) (file_rule (codes "certificate") true))
+    (flag_rule (codes "json"))
 
 abbrev pub headroom_app : App
 headroom_app =

@@ -1,7 +1,7 @@
 -- What the words of a command line mean.
-use Rattle.std.specs.Prelude.{◌&&◌, ◌||◌, Bool, false, not, List, [], Option, Some, None}
+use Rattle.std.specs.Prelude.{◌==◌, ◌&&◌, ◌||◌, Bool, false, not, List, [], Option, Some, None}
 use Rattle.std.specs.Prelude.{Result, codes, is_some, if◌then◌else◌, unwrap_or}
-use Rattle.std.specs.List.{list_any}
+use Rattle.std.specs.List.{before_first, list_any}
 use Rattle.std.specs.Option.{option_and_then, option_map_or}
 use Rattle.std.specs.Result.{result_unwrap_or}
 use Rattle.std.specs.Str.{bytes_eq}
@@ -24,7 +24,6 @@ use Rattle.metric_command_lines.specs.declared.wormweekly.request.Form.TheVarian
 use Rattle.metric_command_lines.specs.Forms.{is_page}
 use Rattle.metric_command_lines.specs.Standard.{output_of, reads_twice}
 use Rattle.metric_command_lines.specs.declared.wormweekly.request.Options.{Options}
-use Rattle.metric_command_lines.specs.declared.wormweekly.request.Outlets.{Outlets}
 use Rattle.metric_command_lines.specs.declared.wormweekly.request.Request.{Request}
 use Rattle.metric_command_lines.specs.declared.wormweekly.request.Task.{Task}
 use Rattle.metric_command_lines.specs.declared.wormweekly.request.Task.TheVariants.{Lint, Show, Make, Check}
@@ -102,20 +101,16 @@ abbrev pub concerns_in : List Row → Concerns
 concerns_in rows = record {
   allowed = words_in (codes "allow") rows;
   denied = words_in (codes "deny") rows;
+  outlets = words_in (codes "for") rows;
 }
 
--- a use of `--for` names this way out
-abbrev pub is_for : Text → List Row → Bool
-is_for outlet rows = list_any (λ word. bytes_eq word outlet) (words_in (codes "for") rows)
-
-abbrev pub outlets_in : List Row → Outlets
-outlets_in rows = record {
-  prometheus = is_for (codes "prometheus") rows;
-  otlp = is_for (codes "otlp") rows;
-}
+-- the way out that a word of `--for` names, before the reader where there is one
+abbrev pub outlet_of : Text → Text
+outlet_of word = before_first (λ b. b == 61) word
 
 abbrev pub is_outlet : Text → Bool
-is_outlet word = bytes_eq word (codes "prometheus") || bytes_eq word (codes "otlp")
+is_outlet word =
+    bytes_eq (outlet_of word) (codes "prometheus") || bytes_eq (outlet_of word) (codes "otlp")
 
 -- a use of `--for` names no way out
 abbrev pub outlets_else : List Row → Bool
@@ -156,7 +151,6 @@ files_in rows = record {
 
 abbrev pub options_in : List Row → Options
 options_in rows = record {
-  outlets = outlets_in rows;
   json = has_word (codes "json") (codes "true") rows;
   audit = has_word (codes "audit") (codes "true") rows;
   form = form_in rows;

@@ -11,8 +11,9 @@ mod report_command;
 mod request;
 mod standard;
 
+pub use attributes::key_and_value;
 pub use commands::VERSION;
 pub use fault::{Misuse, RequestFault};
 pub use reading::request_of;
-pub use request::{Concerns, Files, Form, Options, Outlets, Request, Task};
+pub use request::{Concerns, Files, Form, Options, Request, Task};
 pub use standard::is_standard;

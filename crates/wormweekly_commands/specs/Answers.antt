@@ -1,5 +1,5 @@
 -- What each command answers, and with which fault it stops before it writes.
-use Rattle.std.specs.Prelude.{◌≡◌, ℕ, false, List, codes, if◌then◌else◌, map}
+use Rattle.std.specs.Prelude.{◌≡◌, ℕ, List, [], codes, if◌then◌else◌, map}
 use Rattle.std.specs.List.{AllZip, flat_map}
 use Rattle.metric_parts.specs.declared.parts.Parts.{Parts}
 use Rattle.metric_contents.specs.declared.contents.Contents.{Contents}
@@ -12,7 +12,6 @@ use Rattle.metric_bounds.specs.Amounts.{total_of}
 use Rattle.metric_advice.specs.Headrooms.{IsHeadroom}
 use Rattle.metric_advice.specs.Remarks.{AreRemarks}
 use Rattle.metric_advice.specs.declared.remark.Remark.{Remark}
-use Rattle.metric_command_lines.specs.declared.wormweekly.request.Outlets.{Outlets}
 use Rattle.metric_command_lines.specs.declared.wormweekly.request.Request.{Request}
 use Rattle.metric_command_lines.specs.declared.wormweekly.request.Task.{Task}
 use Rattle.metric_command_lines.specs.declared.wormweekly.request.Task.TheVariants.{Lint, Show, Make, Check}
@@ -47,10 +46,9 @@ pub record AreRooms (parts : Parts) (rooms : Rooms) : Type 0 where
       (streams_of rooms.declared.catalogue rooms.declared.config))
       (all_instruments rooms.declared.catalogue) rooms.rooms
 
--- the ways out that are told of: none where that is allowed
-abbrev pub told_outlets : Outlets → List (List ℕ) → Outlets
-told_outlets outlets allowed =
-    if names allowed (codes "exposure") then record { prometheus = false; otlp = false } else outlets
+-- the words for ways out that are told of: none where that is allowed
+abbrev pub told_outlets : List (List ℕ) → List (List ℕ) → List (List ℕ)
+told_outlets words allowed = if names allowed (codes "exposure") then [] else words
 
 -- The remarks on what the parts declare that are not allowed, with what the ways out would lose that
 -- are asked for.
@@ -60,7 +58,7 @@ pub record AreNotes (request : Request) (parts : Parts) (notes : Notes) : Type 0
   pub are_remarks : AreRemarks notes.declared.catalogue notes.declared.config all
   pub remarks : notes.remarks ≡ flat_map (unless_allowed request.concerns.allowed) all
   pub exposures : notes.exposures.items
-      ≡ all_exposures (told_outlets request.options.outlets request.concerns.allowed)
+      ≡ all_exposures (told_outlets request.concerns.outlets request.concerns.allowed)
       notes.declared.catalogue notes.declared.config
       (streams_of notes.declared.catalogue notes.declared.config)
 

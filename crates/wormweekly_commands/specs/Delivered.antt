@@ -1,5 +1,5 @@
 -- Where an answer is written, and the exit status then.
-use Rattle.std.specs.Prelude.{◌≡◌, ℕ, List, Option, Some, None, codes, if◌then◌else◌}
+use Rattle.std.specs.Prelude.{◌≡◌, ℕ, Bool, List, Option, Some, None, codes, if◌then◌else◌}
 use Rattle.std.specs.Io.KnownBytes.{Appends}
 use Rattle.wormweekly_commands.specs.Concerns.{denies_some}
 use Rattle.wormweekly_commands.specs.Folders.{MadeFile, Makes}
@@ -18,22 +18,28 @@ IsDelivered None text made made_after contents contents_after =
 IsDelivered (Some path) text made made_after contents contents_after =
     Makes made made_after path text × (contents_after ≡ contents)
 
--- A certificate and the line of an accepted certificate are written whole and once. A file is made
--- of none but the first.
-abbrev pub IsDeliveredAnswer : Option (List ℕ) → Answer → Option (List MadeFile)
+-- what is told of an accepted certificate: a line, or lines of JSON
+abbrev pub accepted_text : Bool → List ℕ
+accepted_text json =
+    if json then codes "{\"schema\":1}\n{\"accepted\":true}\n" else codes "accepted\n"
+
+-- A certificate and what is told of an accepted one are written whole and once. A file is made of
+-- none but the first.
+abbrev pub IsDeliveredAnswer : Request → Answer → Option (List MadeFile)
     → Option (List MadeFile) → Option (List ℕ) → Option (List ℕ) → Type 0
-IsDeliveredAnswer output (answers.Certificate text) made made_after contents contents_after =
-    IsDelivered output text made made_after contents contents_after
-IsDeliveredAnswer output answers.Accepted made made_after contents contents_after =
-    IsDelivered None (codes "accepted\n") made made_after contents contents_after
-IsDeliveredAnswer output answer made made_after contents contents_after = made_after ≡ made
+IsDeliveredAnswer request (answers.Certificate text) made made_after contents contents_after =
+    IsDelivered request.files.output text made made_after contents contents_after
+IsDeliveredAnswer request answers.Accepted made made_after contents contents_after =
+    IsDelivered None (accepted_text request.options.json) made made_after contents contents_after
+IsDeliveredAnswer request answer made made_after contents contents_after = made_after ≡ made
 
 -- What is told of an accepted certificate is written whole and once, and so is a text.
-abbrev pub IsPrinted : Answer → Option (List ℕ) → Option (List ℕ) → Type 0
-IsPrinted (answers.Certificate text) contents contents_after = Appends contents contents_after text
-IsPrinted answers.Accepted contents contents_after =
-    Appends contents contents_after (codes "accepted\n")
-IsPrinted answer contents contents_after = Unit {0}
+abbrev pub IsPrinted : Request → Answer → Option (List ℕ) → Option (List ℕ) → Type 0
+IsPrinted request (answers.Certificate text) contents contents_after =
+    Appends contents contents_after text
+IsPrinted request answers.Accepted contents contents_after =
+    Appends contents contents_after (accepted_text request.options.json)
+IsPrinted request answer contents contents_after = Unit {0}
 
 -- 1 where some remark is denied, or where recordings do not last as long as they are to, else 0
 abbrev pub answer_status : Request → Answer → ℕ

@@ -6,6 +6,7 @@ use Rattle.metric_kit_commands.specs.Declarations.{IsDeclaredFault}
 use Rattle.wormweekly_commands.specs.Answers.{AreNotes, AreRooms, IsListing}
 use Rattle.wormweekly_commands.specs.Comparing.{IsComparison}
 use Rattle.wormweekly_commands.specs.Faults.{IsDeviceFault}
+use Rattle.wormweekly_commands.specs.PageReaders.{LacksReader}
 use Rattle.wormweekly_commands.specs.declared.comparing.Comparison.{Comparison}
 use Rattle.wormweekly_commands.specs.declared.fault.ConsoleFault.{ConsoleFault}
 use Rattle.wormweekly_commands.specs.declared.fault.ConsoleFault.TheVariants as faults
@@ -26,11 +27,12 @@ pub record IsReport (request : Request) (texts : Texts) (report : Report) : Type
   pub rooms : AreRooms texts.parts report.rooms
   pub differences : AreDifferences texts.old texts.parts report.comparison
 
--- The fault is the first of the old files, or of the new ones, or one of what the page is written to.
+-- The fault is the first of the old files, or of the new ones, or one of what the page is written to;
+-- or a reader that words name is not there.
 abbrev pub RefusesReport : Texts → ConsoleFault → Type 0
 RefusesReport texts (faults.Unread role cause) = ⊥
 RefusesReport texts (faults.Overwrites role) = ⊥
 RefusesReport texts (faults.Unwritten cause) = Unit {0}
-RefusesReport texts (faults.Page fault) = ⊥
+RefusesReport texts (faults.Page fault) = LacksReader texts.parts fault
 RefusesReport texts (faults.Old fault) = IsSomeAnd texts.old (λ old. IsDeclaredFault fault old)
 RefusesReport texts (faults.Kit fault) = IsDeviceFault fault ⊎ IsDeclaredFault fault texts.parts

@@ -20,6 +20,7 @@ use Rattle.wormweekly_commands.specs.Drawing.{IsDrawing}
 use Rattle.wormweekly_commands.specs.Faults.{IsDeviceFault, IsRefusal, status_of}
 use Rattle.wormweekly_commands.specs.Folders.{MadeFile}
 use Rattle.wormweekly_commands.specs.Inputs.{IsReplayIn, scripted}
+use Rattle.wormweekly_commands.specs.PageReaders.{LacksReader}
 use Rattle.wormweekly_commands.specs.Paging.{ReplaysPage, dialect_of}
 use Rattle.wormweekly_commands.specs.Readings.{AreTexts, IsHeld}
 use Rattle.wormweekly_commands.specs.Reporting.{IsReport, RefusesReport}
@@ -56,17 +57,17 @@ pub record Answers (request : Request) (parts : Parts) (writing : Writing) (stat
     : Type 0 where
   pub answer : Answer
   pub is_answer : IsAnswer request.task request parts answer
-  pub delivered : IsDeliveredAnswer request.files.output answer writing.made writing.made_after
+  pub delivered : IsDeliveredAnswer request answer writing.made writing.made_after
       writing.contents writing.contents_after
   pub is_status : status ≡ answer_status request answer
 
 -- A fault is of a device, or the first that the parts have, or a
--- certificate is not there to be checked.
+-- certificate is not there to be checked, or a reader that words name.
 abbrev pub RefusesFor : Task → Parts → ConsoleFault → Type 0
 RefusesFor task parts (Unread role cause) = parts.certificate ≡ None
 RefusesFor task parts (Overwrites role) = ⊥
 RefusesFor task parts (Unwritten cause) = Unit {0}
-RefusesFor task parts (Page fault) = ⊥
+RefusesFor task parts (Page fault) = LacksReader parts fault
 RefusesFor task parts (faults.Old fault) = ⊥
 RefusesFor task parts (Kit fault) = IsDeviceFault fault ⊎ IsAnswerFault task fault parts
 

@@ -1,7 +1,7 @@
 //! Answers written.
 ghost use Rattle.std.specs.Prelude.{◌≡◌, IfErr, IfOk, OnErr, OnOk};
 ghost use Rattle.std.specs.Io.KnownBytes.{Appends};
-ghost use Rattle.wormweekly_commands.specs.Delivered.{IsDelivered, IsDeliveredAnswer, IsPrinted, answer_status};
+ghost use Rattle.wormweekly_commands.specs.Delivered.{IsDelivered, IsDeliveredAnswer, IsPrinted, accepted_text, answer_status};
 ghost use Rattle.wormweekly_commands.specs.Faults.{IsDeliveryFault, IsDeviceFault};
 
 use crate::answer::Answer;
@@ -43,7 +43,7 @@ pub(crate) fn deliver<F: Folder, W: Sink>(
     folder: &mut F,
     sink: &mut W,
 ) -> Result<u8, ConsoleFault>
-    ensures delivered { OnOk result (IsDeliveredAnswer request.now.files.output answer.now
+    ensures delivered { OnOk result (IsDeliveredAnswer request.now answer.now
         (F.made folder.old) (F.made folder.new) (W.contents sink.old) (W.contents sink.new)) }
     ensures status { IfOk result (λ status. status ≡ answer_status request.now answer.now) }
     ensures unmade { OnErr result (F.made folder.new ≡ F.made folder.old) }
@@ -63,7 +63,7 @@ fn write_answer<F: Folder, W: Sink>(
     folder: &mut F,
     sink: &mut W,
 ) -> Result<(), ConsoleFault>
-    ensures delivered { OnOk result (IsDeliveredAnswer request.now.files.output answer.now
+    ensures delivered { OnOk result (IsDeliveredAnswer request.now answer.now
         (F.made folder.old) (F.made folder.new) (W.contents sink.old) (W.contents sink.new)) }
     ensures unmade { OnErr result (F.made folder.new ≡ F.made folder.old) }
     ensures device { IfErr result IsDeliveryFault }
@@ -91,15 +91,26 @@ fn print_answer<W: Sink>(
     columns: u32,
 ) -> Result<(), KitFault>
     ensures accepted { OnOk result
-        (IsPrinted answer.now (W.contents sink.old) (W.contents sink.new)) }
+        (IsPrinted request.now answer.now (W.contents sink.old) (W.contents sink.new)) }
     ensures device { IfErr result IsDeviceFault }
 {
     match answer {
-        Answer::Accepted => print(sink, "accepted\n"),
+        Answer::Accepted => print(sink, accepted_text(request.options.json)),
         Answer::Streams(listing) => { print_sheet(alloc, sink, listing, request.options, columns) }
         Answer::Rooms(rooms) => print_rooms(alloc, sink, rooms, request.options, columns),
         Answer::Notes(notes) => print_notes(alloc, sink, request, texts, notes),
         Answer::Certificate(text) => print(sink, text.as_str()),
+    }
+}
+
+// What is told of an accepted certificate.
+fn accepted_text(json: bool) -> &'static str
+    ensures { result.now ≡ accepted_text json }
+{
+    if json {
+        "{\"schema\":1}\n{\"accepted\":true}\n"
+    } else {
+        "accepted\n"
     }
 }
 

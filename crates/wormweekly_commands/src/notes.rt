@@ -7,7 +7,7 @@ use crate::concerns::{denies, kept, names};
 use crate::exposures::{Exposure, exposures_of};
 use metric_advice::{Remark, lint};
 use metric_base::{Items, Text};
-use metric_command_lines::{Outlets, Request};
+use metric_command_lines::Request;
 use metric_kit_commands::{Declared, KitFault, declared_of};
 use metric_parts::Parts;
 use metric_resolve::{StreamList, resolve_streams};
@@ -98,7 +98,7 @@ pub(crate) fn notes_of(
         &declared.catalogue,
         &declared.config,
         streams.as_slice(),
-        told_outlets(request.options.outlets, allowed),
+        told_outlets(request.concerns.outlets.as_slice(), allowed),
     )?;
     let denied = request.concerns.denied.as_slice();
     let order = order_of(alloc, denied, remarks.as_slice(), exposures.len())?;
@@ -111,16 +111,13 @@ pub(crate) fn notes_of(
     })
 }
 
-// The ways out that are told of: none where that is allowed.
-fn told_outlets(outlets: Outlets, allowed: &[Text]) -> Outlets
-    ensures { result ≡ told_outlets outlets allowed.now }
+// The words for ways out that are told of: none where that is allowed.
+fn told_outlets<'a>(words: &'a [Text], allowed: &[Text]) -> &'a [Text]
+    ensures { result.now ≡ told_outlets words.now allowed.now }
 {
     if names(allowed, "exposure") {
-        Outlets {
-            prometheus: false,
-            otlp: false,
-        }
+        &[]
     } else {
-        outlets
+        words
     }
 }

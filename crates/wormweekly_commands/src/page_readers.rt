@@ -1,15 +1,19 @@
-//! The reader whose page is printed.
-ghost use Rattle.std.specs.Prelude.{◌≡◌, ◌+◌, ◌≤◌, filter, if◌then◌else◌, length};
+//! Readers that words name: the one whose page is printed, and those of ways out.
+ghost use Rattle.std.specs.Prelude.{◌≡◌, ◌+◌, ◌≤◌, Err, IfErr, filter, if◌then◌else◌, length};
 ghost use Rattle.std.specs.List.{range_with_len};
 ghost use Rattle.metric_exposure.specs.declared.outlet.Outlet.TheVariants.{Prometheus};
 ghost use Rattle.wormweekly_commands.specs.Exposures.{has_served};
-ghost use Rattle.wormweekly_commands.specs.PageReaders.{only_reader, reader_asked, reader_named, with_served};
+ghost use Rattle.wormweekly_commands.specs.PageReaders.{IsReaderFault, only_reader, reader_asked, reader_named, with_served};
 
 use crate::exposures::serves_reader;
-use crate::fault::PageFault;
+use crate::fault::{ConsoleFault, PageFault};
 use metric_base::Text;
+use metric_command_lines::key_and_value;
 use metric_exposure::Outlet;
-use metric_views::{Reader, Stream};
+use metric_kit_commands::declared_of;
+use metric_parts::Parts;
+use metric_views::{Config, Reader, Stream};
+use std::alloc::Global;
 
 /// The number of the reader of a name, or of the only one that pages can serve where none is named.
 pub(crate) fn reader_asked(
@@ -79,5 +83,50 @@ fn with_served(found: Result<u32, PageFault>, reader: u32) -> Result<u32, PageFa
     match found {
         Err(PageFault::NoneServed) => Ok(reader),
         _ => Err(PageFault::SeveralReaders),
+    }
+}
+
+/// Refuses words that name a reader which the config does not have.
+///
+/// # Errors
+///
+/// [`PageFault::NoReader`], the first fault of the parts, and out of memory.
+pub(crate) fn check_readers(
+    alloc: Global,
+    words: &[Text],
+    parts: &Parts<'_>,
+) -> Result<(), ConsoleFault>
+    ensures { IfErr result (IsReaderFault parts.now) }
+{
+    for word in words {
+        check_reader(alloc, word.as_str(), parts)?;
+    }
+    Ok(())
+}
+
+// The same of one word.
+#[tactic(auto, using(crate::proofs::Reports::lacks_reader))]
+fn check_reader(alloc: Global, word: &str, parts: &Parts<'_>) -> Result<(), ConsoleFault>
+    ensures { IfErr result (IsReaderFault parts.now) }
+{
+    let (_, name) = key_and_value(word);
+    if name.is_empty() {
+        return Ok(());
+    }
+    let declared = declared_of(alloc, parts)?;
+    match find_reader(name, &declared.config) {
+        Ok(()) => Ok(()),
+        Err(fault) => Err(ConsoleFault::Page(fault)),
+    }
+}
+
+// Whether a config has a reader of a name.
+fn find_reader(name: &str, config: &Config) -> Result<(), PageFault>
+    ensures { IfErr result (λ fault.
+        reader_named name.now 0 config.now.readers ≡ Err fault) }
+{
+    match reader_named(name, 0, config.readers()) {
+        Ok(_) => Ok(()),
+        Err(fault) => Err(fault),
     }
 }

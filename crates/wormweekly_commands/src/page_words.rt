@@ -4,7 +4,6 @@ use crate::parts::Texts;
 use crate::shown_path::shown;
 use crate::telling::pair_of;
 use crate::told_fault::Told;
-use metric_base::Text;
 use metric_command_lines::{Files, Request};
 use metric_diagnosis::diagnose_exposure;
 use metric_exposure::{ExposureFault, Outlet};
@@ -27,7 +26,7 @@ pub(crate) fn told_page(
         PageFault::LabelCollision { attribute, other } => {
             told_labels(alloc, resource, attribute, other)
         }
-        PageFault::NoReader => told_reader(alloc, config, &request.reader),
+        PageFault::NoReader => told_reader(alloc, config, request),
         PageFault::NoneServed => Told::of_file(
             alloc,
             config,
@@ -64,13 +63,15 @@ fn told_labels(
     Told::of_words(alloc, words)
 }
 
-fn told_reader(alloc: Global, config: &str, name: &Option<Text>) -> Result<Told, AllocError> {
-    let name = match name {
-        Some(name) => name.as_str(),
-        None => "",
-    };
-    let words = format!(in alloc; "no reader is named '{name}'")?;
-    Told::of_file(alloc, config, words.as_str())
+fn told_reader(alloc: Global, config: &str, request: &Request) -> Result<Told, AllocError> {
+    match &request.reader {
+        Some(name) => {
+            let name = name.as_str();
+            let words = format!(in alloc; "no reader is named '{name}'")?;
+            Told::of_file(alloc, config, words.as_str())
+        }
+        None => Told::of_file(alloc, config, "it has not each reader that '--for' names"),
+    }
 }
 
 // The key of an attribute.

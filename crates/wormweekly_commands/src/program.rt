@@ -20,6 +20,7 @@ use crate::drawing::run_draw;
 use crate::expanding::run_expand;
 use crate::fault::{ConsoleFault, Role};
 use crate::folder::{Folder, Unread};
+use crate::page_readers::check_readers;
 use crate::paging::{dialect_of, replay_as_page};
 use crate::parts::{Texts, texts_of};
 use crate::refused::tell_refused;
@@ -183,7 +184,7 @@ fn run_texts<F: Folder, W: Sink, E: Sink>(
 }
 
 // Answers of the texts what a request asks for, writes the answer, and tells what is to be warned of. The exit status.
-#[tactic(auto, using(crate::proofs::Devices::delivery_is_no_refusal))]
+#[tactic(auto, using(crate::proofs::Devices::delivery_is_no_refusal, crate::proofs::Reports::reader_refuses_lint))]
 fn run_answer<F: Folder, W: Sink, E: Sink>(
     alloc: Global,
     request: &Request,
@@ -207,6 +208,9 @@ fn run_answer<F: Folder, W: Sink, E: Sink>(
     let task = request.task;
     if task == Task::Check && texts.parts.certificate.is_none() {
         return Err(missing(Role::Certificate));
+    }
+    if task == Task::Lint {
+        check_readers(alloc, request.concerns.outlets.as_slice(), &texts.parts)?;
     }
     let answer = answer_of(alloc, task, request, &texts.parts)?;
     let status = deliver(alloc, request, texts, &answer, columns, folder, sink)?;

@@ -7,6 +7,7 @@ use crate::drawing::picture_of;
 use crate::fault::ConsoleFault;
 use crate::listing::{Listing, listing_of};
 use crate::notes::{Notes, notes_of};
+use crate::page_readers::check_readers;
 use crate::parts::Texts;
 use crate::rooms::{Rooms, rooms_of};
 use metric_command_lines::Request;
@@ -37,8 +38,9 @@ impl Drop for Report {
 ///
 /// # Errors
 ///
-/// The first fault of the old files, as [`ConsoleFault::Old`], or of the new ones; and [`KitFault::Memory`].
-#[tactic(auto, using(crate::proofs::Reports::declared_refused))]
+/// A reader that words name and the config does not have; the first fault of the old files, as [`ConsoleFault::Old`], or
+/// of the new ones; and [`KitFault::Memory`].
+#[tactic(auto, using(crate::proofs::Reports::declared_refused, crate::proofs::Reports::reader_refuses_report))]
 pub(crate) fn report_of(
     alloc: Global,
     request: &Request,
@@ -47,6 +49,7 @@ pub(crate) fn report_of(
     ensures ok { IfOk result (IsReport request.now texts.now) }
     ensures first { IfErr result (RefusesReport texts.now) }
 {
+    check_readers(alloc, request.concerns.outlets.as_slice(), &texts.parts)?;
     let comparison = differences_of(alloc, texts)?;
     let listing = listing_of(alloc, &texts.parts)?;
     let notes = notes_of(alloc, request, &texts.parts)?;

@@ -68,8 +68,8 @@ fn attribute_of(alloc: Global, word: &str) -> Result<OwnedAttr, AllocError>
     Ok(OwnedAttr { key, value })
 }
 
-// What stands before the first `=` of a word, and after it.
-fn key_and_value(word: &str) -> (&str, &str)
+/// What stands before the first `=` of a word, and after it; without one the whole word, and nothing.
+pub fn key_and_value(word: &str) -> (&str, &str)
     ensures key { result.0.now ≡ before_first (λ b. b == 61) word.now }
     ensures value { result.1.now ≡ after_first (λ b. b == 61) word.now }
 {

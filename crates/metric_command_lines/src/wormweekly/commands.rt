@@ -176,7 +176,8 @@ fn lint<'a>(alloc: Global) -> Result<Command<'a>, AllocError>
     let command = with_argument(command, texts(alloc, "deny", "KIND", help));
     let help = "Leave such remarks out";
     let command = with_argument(command, texts(alloc, "allow", "KIND", help));
-    let help = "Tell too what a way out would lose, as often as wanted: `prometheus` or `otlp`";
+    let help =
+        "Tell too what a way out would lose, as often as wanted: `prometheus` or `otlp`, of one reader with `=` and its name";
     with_argument(command, texts(alloc, "for", "OUTLET", help))
 }
 
@@ -221,7 +222,9 @@ fn make<'a>(alloc: Global) -> Result<Command<'a>, AllocError>
         "Makes a certificate that the two are safe, or says what is not",
         "Example:\n  wormweekly make catalogue.toml config.toml -o certificate.toml",
     );
-    with_argument(command, output(alloc))
+    let command = with_argument(command, output(alloc));
+    let help = "Print a fault as a line of JSON";
+    with_argument(command, flag(alloc, "json", help))
 }
 
 fn check<'a>(alloc: Global) -> Result<Command<'a>, AllocError>
@@ -236,7 +239,9 @@ fn check<'a>(alloc: Global) -> Result<Command<'a>, AllocError>
     );
     let help = "The certificate, whoever made it";
     let certificate = file(alloc, "certificate", "CERTIFICATE", help, true);
-    with_argument(command, certificate)
+    let command = with_argument(command, certificate);
+    let help = "Print the answer, or a fault, as a line of JSON";
+    with_argument(command, flag(alloc, "json", help))
 }
 
 fn replay<'a>(alloc: Global) -> Result<Command<'a>, AllocError>

@@ -1,20 +1,19 @@
 //! The reading of a command line.
 ghost use Rattle.std.specs.Prelude.{◌≡◌, [], IfErr, IfOk, IsOk, IsSomeAnd, Ok, OnOk, Some, codes, is_some, map, not, true};
 ghost use Rattle.std.specs.List.{list_any};
-ghost use Rattle.std.specs.Str.{bytes_eq};
 ghost use Rattle.clap.specs.Words.{fault_of, first_of, found_of, rows_of, subcommand_of, subcommand_rows_of, takes};
 ghost use Rattle.metric_command_lines.specs.Apps.{program_app};
 ghost use Rattle.metric_command_lines.specs.Attributes.{resource_in};
 ghost use Rattle.metric_command_lines.specs.RequestFaults.{IsAllowed, IsMisuse, IsNoRequest, IsNotAsked, IsOwn};
 ghost use Rattle.metric_command_lines.specs.Standard.{output_of};
 ghost use Rattle.metric_command_lines.specs.Requests.{certificate_in, denies_else, files_in, form_in, form_of, forms_else, has_word, old_in, options_in, request_in, resource_asked, script_in, task_of, text_in};
-ghost use Rattle.metric_command_lines.specs.Requests.{all_word, allows_else, concerns_in, is_concern, is_denied, is_for, is_outlet, outlets_else, outlets_in, reads_else, words_in};
+ghost use Rattle.metric_command_lines.specs.Requests.{all_word, allows_else, concerns_in, is_concern, is_denied, is_outlet, outlets_else, reads_else, words_in};
 
 use crate::numbers::number_of;
-use crate::wormweekly::attributes::resource_of;
+use crate::wormweekly::attributes::{key_and_value, resource_of};
 use crate::wormweekly::commands::program;
 use crate::wormweekly::fault::{Misuse, RequestFault, fault_of};
-use crate::wormweekly::request::{Concerns, Files, Form, Options, Outlets, Request, Task};
+use crate::wormweekly::request::{Concerns, Files, Form, Options, Request, Task};
 use crate::wormweekly::standard::{output_of, reads_twice};
 use clap::ArgMatches;
 use metric_advice::is_kind;
@@ -285,7 +284,6 @@ fn options_of(arguments: &ArgMatches<'_>) -> Options
     ensures { result ≡ options_in (rows_of (found_of arguments.now)) }
 {
     Options {
-        outlets: outlets_in(arguments),
         json: has_word(arguments, "json", "true"),
         audit: has_word(arguments, "audit", "true"),
         form: form_in(arguments),
@@ -387,7 +385,12 @@ fn concerns_in(alloc: Global, arguments: &ArgMatches<'_>) -> Result<Concerns, Al
 {
     let allowed = words_in(alloc, arguments, "allow")?;
     let denied = words_in(alloc, arguments, "deny")?;
-    Ok(Concerns { allowed, denied })
+    let outlets = words_in(alloc, arguments, "for")?;
+    Ok(Concerns {
+        allowed,
+        denied,
+        outlets,
+    })
 }
 
 // The words of all uses of an option.
@@ -410,32 +413,6 @@ fn owned(alloc: Global, words: &[&str]) -> Result<Items<Text>, AllocError>
     Ok(owned)
 }
 
-// The ways out that the uses of `--for` name.
-fn outlets_in(arguments: &ArgMatches<'_>) -> Outlets
-    ensures { result ≡ outlets_in (rows_of (found_of arguments.now)) }
-{
-    Outlets {
-        prometheus: is_for(arguments, "prometheus"),
-        otlp: is_for(arguments, "otlp"),
-    }
-}
-
-// Whether a use of `--for` names a way out.
-fn is_for(arguments: &ArgMatches<'_>, outlet: &str) -> bool
-    ensures { result ≡ is_for outlet.now (rows_of (found_of arguments.now)) }
-{
-    match arguments.get_strs("for") {
-        Some(words) => has_word_among(words, outlet),
-        None => false,
-    }
-}
-
-fn has_word_among(words: &[&str], wanted: &str) -> bool
-    ensures { result ≡ list_any (λ w. bytes_eq w.now wanted.now) words.now }
-{
-    words.iter().any(|word| *word == wanted)
-}
-
 // Whether a use of `--for` names no way out.
 fn outlets_else(arguments: &ArgMatches<'_>) -> bool
     ensures { result ≡ outlets_else (rows_of (found_of arguments.now)) }
@@ -452,9 +429,10 @@ fn has_other_than_outlets(words: &[&str]) -> bool
     words.iter().any(|word| !is_outlet(word))
 }
 
-// Whether a word names a way out.
+// Whether a word names a way out, with a reader or without one.
 fn is_outlet(word: &str) -> bool
     ensures { result ≡ is_outlet word.now }
 {
-    word == "prometheus" || word == "otlp"
+    let (outlet, _) = key_and_value(word);
+    outlet == "prometheus" || outlet == "otlp"
 }

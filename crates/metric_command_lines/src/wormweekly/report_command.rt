@@ -25,7 +25,8 @@ pub(crate) fn report<'a>(alloc: Global) -> Result<Command<'a>, AllocError>
     let command = over_change(alloc, "report", ABOUT, EXAMPLE);
     let help = "Leave such remarks out";
     let command = with_argument(command, texts(alloc, "allow", "KIND", help));
-    let help = "Tell too what a way out would lose, as often as wanted: `prometheus` or `otlp`";
+    let help =
+        "Tell too what a way out would lose, as often as wanted: `prometheus` or `otlp`, of one reader with `=` and its name";
     let command = with_argument(command, texts(alloc, "for", "OUTLET", help));
     let help = "Recordings a second on each instrument";
     let command = with_argument(command, number(alloc, "rate", help, 1, MOST_RATE, "10000"));

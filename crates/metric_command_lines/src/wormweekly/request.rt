@@ -80,20 +80,9 @@ impl Form {
     }
 }
 
-/// The ways out of the points that a command asks about.
-#[derive(Clone, Copy, Debug, PartialEq, Eq)]
-pub struct Outlets {
-    /// Pages of Prometheus.
-    pub prometheus: bool,
-    /// Requests of OTLP.
-    pub otlp: bool,
-}
-
 /// How a command is done. What does not belong to the command is off, or zero.
 #[derive(Clone, Copy, Debug, PartialEq, Eq)]
 pub struct Options {
-    /// The ways out for which remarks are made.
-    pub outlets: Outlets,
     /// Whether the answer is lines of JSON.
     pub json: bool,
     /// Whether the replies are audited before they are printed.
@@ -117,6 +106,8 @@ pub struct Concerns {
     pub allowed: Items<Text>,
     /// The kinds that are errors; `remarks` stands for all remarks, and `breaking` for each change that breaks.
     pub denied: Items<Text>,
+    /// The ways out for which remarks are made: `prometheus` or `otlp`, or one of them with `=` and the name of a reader.
+    pub outlets: Items<Text>,
 }
 
 /// What a command line asks for.

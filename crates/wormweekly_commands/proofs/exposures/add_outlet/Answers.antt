@@ -7,7 +7,7 @@ use Rattle.wormweekly_commands.proofs.exposures.add_outlet.Goals as goal
 
 pub loop-reader-preserved : goal.loop-reader-preserved
 loop-reader-preserved c =
-    flat_map_turn (told_exposures c.args.outlet c.args.catalogue.now c.args.streams.now) c.loop-reader.reader c.args.found.now.items c.loop-reader.found.items c.add_told.new.found.items
+    flat_map_turn (told_exposures c.args.asked.words.now c.args.asked.outlet c.args.catalogue.now c.args.config.now c.args.streams.now) c.loop-reader.reader c.args.found.now.items c.loop-reader.found.items c.add_told.new.found.items
     c.loop-reader.invariant c.in_ok-add_told.ensures
 
 pub returns : goal.returns
@@ -15,4 +15,4 @@ returns c =
     let config = c.args.config.now in
     let all : c.loop-reader.reader ≡ length config.readers = omega (arith, ap length c.readers.ensures.readers) in
     c.loop-reader.invariant
-    ∙ ap (λ (n : ℕ). c.args.found.now.items ++ flat_map (told_exposures c.args.outlet c.args.catalogue.now c.args.streams.now) (range_with_len 0 n)) all
+    ∙ ap (λ (n : ℕ). c.args.found.now.items ++ flat_map (told_exposures c.args.asked.words.now c.args.asked.outlet c.args.catalogue.now c.args.config.now c.args.streams.now) (range_with_len 0 n)) all

@@ -5,4 +5,4 @@ use Rattle.wormweekly_commands.specs.Exposures.{told_exposures}
 use Rattle.wormweekly_commands.proofs.exposures.add_outlet.Given as goal
 
 abbrev pub invariant-loop-reader : goal.invariant-loop-reader
-invariant-loop-reader l = l.found.items ≡ l.fn.found.items ++ flat_map (told_exposures l.outlet l.catalogue l.streams) (range_with_len 0 l.reader)
+invariant-loop-reader l = l.found.items ≡ l.fn.found.items ++ flat_map (told_exposures l.asked.words.now l.asked.outlet l.catalogue l.config l.streams) (range_with_len 0 l.reader)

@@ -1,5 +1,7 @@
--- One argument is added.
+-- Each argument is added to what was made before.
 use Rattle.metric_command_lines.proofs.wormweekly.commands.make.Goals as goal
 
 pub returns-clause-app : goal.returns-clause-app
-returns-clause-app c = c.with_argument.ensures.app _ _ c.over_pair-command.ensures.app c.output.ensures.rule c.output.ensures.own
+returns-clause-app c =
+    let first = c.with_argument-command.ensures.app _ _ c.over_pair-command.ensures.app c.output.ensures.rule c.output.ensures.own in
+    c.with_argument.ensures.app _ _ first c.flag.ensures.rule c.flag.ensures.own
