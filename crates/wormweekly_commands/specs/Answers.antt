@@ -10,6 +10,7 @@ use Rattle.metric_resolve.specs.Resolved.{streams_of}
 use Rattle.metric_resolve.specs.Warnings.{warnings_of}
 use Rattle.metric_bounds.specs.Amounts.{total_of}
 use Rattle.metric_advice.specs.Headrooms.{IsHeadroom}
+use Rattle.metric_advice.specs.Kinds.{kind_of}
 use Rattle.metric_advice.specs.Remarks.{AreRemarks}
 use Rattle.metric_advice.specs.declared.remark.Remark.{Remark}
 use Rattle.metric_command_lines.specs.declared.wormweekly.request.Request.{Request}
@@ -20,7 +21,7 @@ use Rattle.metric_kit_commands.specs.declared.fault.KitFault.{KitFault}
 use Rattle.metric_kit_commands.specs.Certifying.{IsCertified, IsMakeFault}
 use Rattle.metric_kit_commands.specs.Claims.{IsCertifiedPlan, IsClaimFault}
 use Rattle.metric_kit_commands.specs.Declarations.{IsDeclared, IsDeclaredFault}
-use Rattle.wormweekly_commands.specs.Concerns.{names, unless_allowed}
+use Rattle.wormweekly_commands.specs.Concerns.{names, unless_named}
 use Rattle.wormweekly_commands.specs.Exposures.{all_exposures}
 use Rattle.wormweekly_commands.specs.declared.listing.Listing.{Listing}
 use Rattle.wormweekly_commands.specs.declared.rooms.Rooms.{Rooms}
@@ -56,7 +57,7 @@ pub record AreNotes (request : Request) (parts : Parts) (notes : Notes) : Type 0
   pub declared : IsDeclared parts notes.declared.catalogue notes.declared.config
   pub all : List Remark
   pub are_remarks : AreRemarks notes.declared.catalogue notes.declared.config all
-  pub remarks : notes.remarks ≡ flat_map (unless_allowed request.concerns.allowed) all
+  pub remarks : notes.remarks ≡ flat_map (unless_named kind_of request.concerns.allowed) all
   pub exposures : notes.exposures.items
       ≡ all_exposures (told_outlets request.concerns.outlets request.concerns.allowed)
       notes.declared.catalogue notes.declared.config

@@ -6,11 +6,12 @@ use Rattle.metric_parts.specs.declared.parts.Parts.{Parts}
 use Rattle.metric_resolve.specs.Resolved.{streams_of}
 use Rattle.metric_changes.specs.declared.change.Change.{Change}
 use Rattle.metric_changes.specs.Changes.{Plan, changes_of, plan}
+use Rattle.metric_changes.specs.Kinds.{kind_of}
 use Rattle.metric_command_lines.specs.declared.wormweekly.request.Request.{Request}
 use Rattle.metric_kit_commands.specs.Claims.{IsClaimFault}
 use Rattle.metric_kit_commands.specs.Declarations.{IsDeclaredFault}
 use Rattle.wormweekly_commands.specs.Answers.{AreRooms, IsAccepted}
-use Rattle.wormweekly_commands.specs.Concerns.{denies_change, still_open, unless_left_out}
+use Rattle.wormweekly_commands.specs.Concerns.{denies_change, still_open, unless_named}
 use Rattle.wormweekly_commands.specs.Faults.{IsDeviceFault, IsRefusal}
 use Rattle.wormweekly_commands.specs.Series.{all_series}
 use Rattle.wormweekly_commands.specs.declared.comparing.Claim.{Claim}
@@ -73,7 +74,7 @@ diff_status denied changes = if list_any (denies_change denied) changes then 1 e
 -- the changes of a comparison that are told, which are not left out
 abbrev pub told_changes : Request → Comparison → List Change
 told_changes request comparison =
-    flat_map (unless_left_out request.concerns.allowed) comparison.changes
+    flat_map (unless_named kind_of request.concerns.allowed) comparison.changes
 
 -- The answer's status, where it was written. It is that of the changes that are told but for those
 -- that a file accepts; without a file there are none.

@@ -4,7 +4,6 @@ use Rattle.std.specs.Prelude.{length, slice_index_or}
 use Rattle.std.specs.List.{enumerate_from, flat_map, list_any}
 use Rattle.std.specs.Str.{bytes_eq}
 use Rattle.metric_advice.specs.Kinds.{kind_of}
-use Rattle.metric_advice.specs.declared.remark.Remark.{Remark}
 use Rattle.metric_changes.specs.Breaking.{is_breaking}
 use Rattle.metric_changes.specs.Kinds as changes
 use Rattle.metric_changes.specs.declared.change.Change.{Change}
@@ -14,9 +13,9 @@ use Rattle.wormweekly_commands.specs.declared.notes.Notes.{Notes}
 abbrev pub names : List (List ℕ) → List ℕ → Bool
 names words kind = list_any (λ word. bytes_eq word kind) words
 
--- a remark, unless words allow its kind
-abbrev pub unless_allowed : List (List ℕ) → Remark → List Remark
-unless_allowed allowed remark = if names allowed (kind_of remark) then [] else remark ∷ []
+-- what has a kind, unless it is among words
+abbrev pub unless_named : {A : Type 0} → (A → List ℕ) → List (List ℕ) → A → List A
+unless_named kind words one = if names words (kind one) then [] else one ∷ []
 
 -- it is denied by them, by its own name or with all
 abbrev pub denies : List (List ℕ) → List ℕ → Bool
@@ -27,10 +26,6 @@ abbrev pub denies_some : List (List ℕ) → Notes → Bool
 denies_some words notes =
     list_any (λ remark. denies words (kind_of remark)) notes.remarks
     || (not (length notes.exposures.items == 0) && denies words (codes "exposure"))
-
--- a change, unless words allow its kind
-abbrev pub unless_left_out : List (List ℕ) → Change → List Change
-unless_left_out allowed change = if names allowed (changes.kind_of change) then [] else change ∷ []
 
 -- a change, unless a file accepts it, which is said of each by its place
 abbrev pub unless_accepted : List Bool → ℕ × Change → List Change

@@ -123,7 +123,11 @@ fn part_cell(
     }
 }
 
-fn aggregation_cell(alloc: Global, aggregation: &StreamAggregation) -> Result<Cell, AllocError> {
+/// The boundaries of a histogram.
+pub(crate) fn aggregation_cell(
+    alloc: Global,
+    aggregation: &StreamAggregation,
+) -> Result<Cell, AllocError> {
     match aggregation {
         StreamAggregation::Histogram(boundaries) => numbers_cell(
             alloc,

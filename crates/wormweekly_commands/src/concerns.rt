@@ -2,7 +2,7 @@
 ghost use Rattle.std.specs.Prelude.{◌≡◌, ◌++◌, false, IfOk, OnOk, slice_index_or};
 ghost use Rattle.std.specs.List.{flat_map, list_any};
 ghost use Rattle.metric_advice.specs.Kinds.{kind_of};
-ghost use Rattle.wormweekly_commands.specs.Concerns.{denies, denies_change, denies_some, names, still_open, unless_accepted, unless_allowed, unless_left_out};
+ghost use Rattle.wormweekly_commands.specs.Concerns.{denies, denies_change, denies_some, names, still_open, unless_accepted, unless_named};
 
 use crate::notes::Notes;
 use metric_advice::Remark;
@@ -10,45 +10,75 @@ use metric_base::{Items, Text};
 use metric_changes::Change;
 use std::alloc::{AllocError, Global};
 
-/// The remarks whose kinds are not among these words.
-pub(crate) fn kept(
+/// What has a kind, by whose name it is left out or denied.
+pub(crate) trait Kinded {
+    ghost use Rattle.std.specs.Prelude.{ℕ, List};
+
+    ghost kind: { Self → List ℕ };
+
+    /// The name of its kind.
+    fn kind_name(&self) -> &'static str
+        ensures { result.now ≡ kind self.now };
+}
+
+impl Kinded for Remark {
+    ghost use Rattle.metric_advice.specs.Kinds.{kind_of};
+
+    ghost kind = { kind_of };
+
+    fn kind_name(&self) -> &'static str {
+        self.kind()
+    }
+}
+
+impl Kinded for Change {
+    ghost use Rattle.metric_changes.specs.Kinds.{kind_of};
+
+    ghost kind = { kind_of };
+
+    fn kind_name(&self) -> &'static str {
+        self.kind()
+    }
+}
+
+/// The remarks or changes whose kinds are not among these words.
+pub(crate) fn kept<K: Kinded + Copy + Drop>(
     alloc: Global,
-    remarks: &[Remark],
+    all: &[K],
     allowed: &[Text],
-) -> Result<Items<Remark>, AllocError>
+) -> Result<Items<K>, AllocError>
     ensures { IfOk result (λ kept. kept
-        ≡ flat_map (unless_allowed allowed.now) remarks.now) }
+        ≡ flat_map (unless_named K.kind allowed.now) all.now) }
 {
     let mut kept = Items::new(alloc);
-    add_kept(&mut kept, remarks, allowed)?;
+    add_kept(&mut kept, all, allowed)?;
     Ok(kept)
 }
 
-// Puts the remarks last whose kinds are not among these words.
 #[tactic(auto, using(metric_text::specs::ListLaws::steps))]
-fn add_kept(
-    kept: &mut Items<Remark>,
-    remarks: &[Remark],
+fn add_kept<K: Kinded + Copy + Drop>(
+    kept: &mut Items<K>,
+    all: &[K],
     allowed: &[Text],
 ) -> Result<(), AllocError>
     ensures { OnOk result (kept.new ≡ kept.old
-        ++ flat_map (unless_allowed allowed.now) remarks.now) }
+        ++ flat_map (unless_named K.kind allowed.now) all.now) }
 {
-    for remark in remarks {
-        add_unless_allowed(kept, *remark, allowed)?;
+    for one in all {
+        add_unless_named(kept, *one, allowed)?;
     }
     Ok(())
 }
 
-fn add_unless_allowed(
-    kept: &mut Items<Remark>,
-    remark: Remark,
+fn add_unless_named<K: Kinded + Copy + Drop>(
+    kept: &mut Items<K>,
+    one: K,
     allowed: &[Text],
 ) -> Result<(), AllocError>
-    ensures { OnOk result (kept.new ≡ kept.old ++ unless_allowed allowed.now remark) }
+    ensures { OnOk result (kept.new ≡ kept.old ++ unless_named K.kind allowed.now one) }
 {
-    if !names(allowed, remark.kind()) {
-        kept.push(remark)?;
+    if !names(allowed, one.kind_name()) {
+        kept.push(one)?;
     }
     Ok(())
 }
@@ -79,47 +109,6 @@ fn denies_remark(words: &[Text], remarks: &[Remark]) -> bool
     ensures { result ≡ list_any (λ remark. denies words.now (kind_of remark)) remarks.now }
 {
     remarks.iter().any(|remark| denies(words, remark.kind()))
-}
-
-/// The changes whose kinds are not among these words.
-pub(crate) fn told_changes(
-    alloc: Global,
-    changes: &[Change],
-    allowed: &[Text],
-) -> Result<Items<Change>, AllocError>
-    ensures { IfOk result (λ told. told ≡ flat_map (unless_left_out allowed.now) changes.now) }
-{
-    let mut told = Items::new(alloc);
-    add_told(&mut told, changes, allowed)?;
-    Ok(told)
-}
-
-#[tactic(auto, using(metric_text::specs::ListLaws::steps))]
-fn add_told(
-    told: &mut Items<Change>,
-    changes: &[Change],
-    allowed: &[Text],
-) -> Result<(), AllocError>
-    ensures { OnOk result (told.new ≡ told.old
-        ++ flat_map (unless_left_out allowed.now) changes.now) }
-{
-    for change in changes {
-        add_unless_left_out(told, *change, allowed)?;
-    }
-    Ok(())
-}
-
-fn add_unless_left_out(
-    told: &mut Items<Change>,
-    change: Change,
-    allowed: &[Text],
-) -> Result<(), AllocError>
-    ensures { OnOk result (told.new ≡ told.old ++ unless_left_out allowed.now change) }
-{
-    if !names(allowed, change.kind()) {
-        told.push(change)?;
-    }
-    Ok(())
 }
 
 /// The changes that a file does not accept, which is said of each by its place.

@@ -9,6 +9,7 @@ use crate::concerns::denies_some;
 use crate::ending::some_end_early;
 use crate::fault::{ConsoleFault, of_device, of_sheet};
 use crate::folder::Folder;
+use crate::listing::{Listing, StreamSheet};
 use crate::noting::print_notes;
 use crate::parts::Texts;
 use crate::rooms::{RoomSheet, Rooms};
@@ -96,7 +97,7 @@ fn print_answer<W: Sink>(
 {
     match answer {
         Answer::Accepted => print(sink, accepted_text(request.options.json)),
-        Answer::Streams(listing) => { print_sheet(alloc, sink, listing, request.options, columns) }
+        Answer::Streams(listing) => print_streams(alloc, sink, listing, request.options, columns),
         Answer::Rooms(rooms) => print_rooms(alloc, sink, rooms, request.options, columns),
         Answer::Notes(notes) => print_notes(alloc, sink, request, texts, notes),
         Answer::Certificate(text) => print(sink, text.as_str()),
@@ -207,6 +208,22 @@ pub(crate) fn flush<W: Sink>(sink: &mut W) -> Result<(), KitFault>
         Ok(()) => Ok(()),
         Err(broken) => Err(of_device(broken)),
     }
+}
+
+fn print_streams<W: Sink>(
+    alloc: Global,
+    sink: &mut W,
+    listing: &Listing,
+    options: Options,
+    columns: u32,
+) -> Result<(), KitFault>
+    ensures { IfErr result IsDeviceFault }
+{
+    let sheet = StreamSheet {
+        listing,
+        is_whole: options.json,
+    };
+    print_sheet(alloc, sink, &sheet, options, columns)
 }
 
 fn print_rooms<W: Sink>(

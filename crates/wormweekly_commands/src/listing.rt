@@ -3,6 +3,7 @@ ghost use Rattle.std.specs.Prelude.{IfErr, IfOk};
 ghost use Rattle.metric_kit_commands.specs.Declarations.{IsDeclaredFault};
 ghost use Rattle.wormweekly_commands.specs.Answers.{IsListing};
 
+use crate::change_cells::aggregation_cell;
 use crate::marks::{Marks, mark_cell, marks_of};
 use crate::rows::{family_cell, put_stream};
 use metric_base::Items;
@@ -11,9 +12,10 @@ use metric_kit_commands::{Declared, KitFault, declared_of};
 use metric_parts::Parts;
 use metric_resolve::{Streams, resolve};
 use metric_sheet::{Cell, Row, Sheet};
+use metric_views::Stream;
 use std::alloc::{AllocError, Global};
 
-static TITLES: [&str; 16] = [
+static TITLES: [&str; 18] = [
     "number",
     "reader",
     "meter",
@@ -30,7 +32,12 @@ static TITLES: [&str; 16] = [
     "clash",
     "unfit",
     "family",
+    "description",
+    "boundaries",
 ];
+
+// So many of them stand in a table: the others would be too wide.
+const MOST_TITLES: usize = 16;
 
 /// The streams of a config, with what is to be warned of, and how often each instrument may be recorded.
 pub(crate) struct Listing {
@@ -73,29 +80,53 @@ pub(crate) fn listing_of(alloc: Global, parts: &Parts<'_>) -> Result<Listing, Ki
     })
 }
 
-impl Sheet for Listing {
+/// The streams of a listing, with all that there is of each, or as much as a table has.
+#[derive(Clone, Copy)]
+pub(crate) struct StreamSheet<'a> {
+    pub listing: &'a Listing,
+    pub is_whole: bool,
+}
+
+impl Sheet for StreamSheet<'_> {
     fn titles(&self) -> &'static [&'static str] {
-        TITLES.as_slice()
+        let titles = TITLES.as_slice();
+        if self.is_whole {
+            titles
+        } else {
+            titles.get(..MOST_TITLES).unwrap_or(titles)
+        }
     }
 
     fn rows(&self) -> usize {
-        self.streams.list().len()
+        self.listing.streams.list().len()
     }
 
     fn row(&self, alloc: Global, number: usize) -> Result<Vec<Cell>, AllocError> {
         let mut row = Row::new(alloc);
-        if let Some(stream) = self.streams.list().get(number) {
-            put_stream(
-                &mut row,
-                &self.declared,
-                self.totals.as_slice(),
-                number,
-                stream,
-            )?;
-            row.put(Ok(mark_cell(self.marks.clash_of(number))));
-            row.put(Ok(mark_cell(self.marks.unfit_of(stream.instrument))));
-            row.put(family_cell(alloc, stream));
+        if let Some(stream) = self.listing.streams.list().get(number) {
+            self.put_cells(&mut row, number, stream)?;
         }
         row.cells()
+    }
+}
+
+impl StreamSheet<'_> {
+    // The cells of the stream of a number.
+    fn put_cells(&self, row: &mut Row, number: usize, stream: &Stream) -> Result<(), AllocError> {
+        let Listing {
+            declared,
+            totals,
+            marks,
+            ..
+        } = self.listing;
+        put_stream(row, declared, totals.as_slice(), number, stream)?;
+        row.put(Ok(mark_cell(marks.clash_of(number))));
+        row.put(Ok(mark_cell(marks.unfit_of(stream.instrument))));
+        row.put(family_cell(row.alloc(), stream));
+        if self.is_whole {
+            row.text(stream.description.get().as_str());
+            row.put(aggregation_cell(row.alloc(), &stream.aggregation));
+        }
+        Ok(())
     }
 }

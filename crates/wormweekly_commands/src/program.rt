@@ -14,7 +14,7 @@ use crate::accepting::{accepted_of, tell_unused};
 use crate::answer::answer_of;
 use crate::change_sheet::ChangeSheet;
 use crate::comparing::{comparison_of, diff_status};
-use crate::concerns::{still_open, told_changes};
+use crate::concerns::{kept, still_open};
 use crate::delivering::{deliver, print, print_sheet, put};
 use crate::drawing::run_draw;
 use crate::expanding::run_expand;
@@ -235,7 +235,7 @@ fn run_diff<W: Sink, E: Sink>(
 {
     let comparison = comparison_of(alloc, texts)?;
     let allowed = request.concerns.allowed.as_slice();
-    let told = told_changes(alloc, comparison.changes.as_slice(), allowed)?;
+    let told = kept(alloc, comparison.changes.as_slice(), allowed)?;
     let sheet = ChangeSheet {
         comparison: &comparison,
         changes: told.as_slice(),

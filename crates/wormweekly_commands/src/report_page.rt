@@ -1,6 +1,7 @@
 //! A report as a page of HTML, in one file that loads nothing.
 use crate::change_sheet::ChangeSheet;
 use crate::comparing::Comparison;
+use crate::listing::StreamSheet;
 use crate::note_sheet::NoteSheet;
 use crate::parts::Texts;
 use crate::report::Report;
@@ -212,7 +213,11 @@ fn push_streams(alloc: Global, page: &mut Vec<u8>, report: &Report) -> Result<()
     push_text(page, "<h2>Streams</h2>\n")?;
     let caption = "Full: the series that a stream may have, of its limit";
     let shares = stream_shares(alloc, &report.listing)?;
-    push_html_table(alloc, page, caption, &report.listing, &shares)
+    let sheet = StreamSheet {
+        listing: &report.listing,
+        is_whole: false,
+    };
+    push_html_table(alloc, page, caption, &sheet, &shares)
 }
 
 // How often each instrument may be recorded, and how much of what is safe its budgets are.
