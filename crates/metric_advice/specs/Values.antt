@@ -60,11 +60,15 @@ ends_before hi boundaries =
     list_any (λ boundary. int_lt (pos 0) boundary) boundaries
     && list_all (λ boundary. int_le (boundary *ℤ pos 100) hi) boundaries
 
--- there are several values, some boundary tells them apart, and they look like numbers of another unit
-abbrev pub are_far : ℤ → ℤ → List ℤ → Bool
+-- they look like numbers of another unit
+abbrev pub look_far : ℤ → ℤ → List ℤ → Bool
+look_far lo hi boundaries = are_most_outside lo hi boundaries || ends_before hi boundaries
+
+-- there are several values, some boundary tells them apart, and they look like that
+unfoldable pub are_far : ℤ → ℤ → List ℤ → Bool
 are_far lo hi boundaries =
-    int_lt lo hi && (not (list_all (is_outside lo hi) boundaries)
-    && (are_most_outside lo hi boundaries || ends_before hi boundaries))
+    int_lt lo hi
+    && (not (list_all (is_outside lo hi) boundaries) && look_far lo hi boundaries)
 
 abbrev pub is_one_bucket_of : Option Instrument → StreamAggregation → Bool
 is_one_bucket_of None aggregation = false
