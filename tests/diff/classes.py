@@ -1,5 +1,7 @@
-"""Which changes of a catalogue and a config break: `diff --deny breaking` ends with 1 for these alone, and tells each change."""
+"""Which changes of a catalogue and a config break: `diff --deny breaking` ends with 1 for these alone, and tells each
+change. Each kind of change is denied, and left out, by its name."""
 
+import json
 import subprocess
 import sys
 import tempfile
@@ -114,30 +116,72 @@ CHANGES = [
 ]
 
 
-def diffed(folder, old, new):
-    """What is told of a change that may break nothing, and the status."""
+# The names of the kinds: what differs, and behind `gone-` or `new-` what only one side has.
+DIFFERS = """reader series name description unit kind aggregation boundaries limit temporality instrument key range
+spare combinations budget headroom"""
+ONE_SIDED = "reader collision stream key instrument value combination recorder"
+KINDS = {*DIFFERS.split(), *(f"{side}-{what}" for side in ("gone", "new") for what in ONE_SIDED.split())}
+
+
+def diffed(folder, old, new, *options):
+    """What is told of a change, and the status."""
     for name, text in zip((f"old-{C}", f"old-{F}", C, F), (*old, *new)):
         (folder / name).write_text(text, encoding="utf-8")
-    line = [PROGRAM, "diff", f"old-{C}", f"old-{F}", C, F, "--deny", "breaking"]
+    line = [PROGRAM, "diff", f"old-{C}", f"old-{F}", C, F, *options]
     ran = subprocess.run(line, cwd=folder, capture_output=True, text=True, timeout=60, check=False)
     return ran.stdout + ran.stderr, ran.returncode
 
 
-def wrong_of(folder, file, before, after, breaks):
-    """What is wrong with how a change is told."""
+def sides_of(file, before, after):
+    """The files before and after a change."""
     old = (CATALOGUE, CONFIG)
     assert before in (CATALOGUE if file == C else CONFIG)
-    new = tuple(text.replace(before, after, 1) if name == file else text for name, text in zip((C, F), old))
-    told, status = diffed(folder, old, new)
+    return old, tuple(text.replace(before, after, 1) if name == file else text for name, text in zip((C, F), old))
+
+
+def wrong_of(folder, file, before, after, breaks):
+    """What is wrong with how a change is told."""
+    told, status = diffed(folder, *sides_of(file, before, after), "--deny", "breaking")
     wrong = [f"ends with {status}: {told}"] * (status != breaks)
     same = before == after or after in ("['us', 'de']", "[[2], [1]]") or "'/cart', '/'" in after
     return wrong + [f"tells {told}"] * ((told == "nothing differs\n") != same)
 
 
+def kind_of(row):
+    """The kind of a change, by what is told of it."""
+    what = "budget" if row["what"].startswith("budget of ") else row["what"]
+    return what if row["change"] == "differs" else f"{row['change']}-{what}"
+
+
+def rows_of(told):
+    """The changes that are told, without the line of the schema."""
+    return [json.loads(line) for line in told.splitlines()][1:]
+
+
+def wrong_kinds(folder, sides, tried):
+    """What is wrong with how changes between two sides are denied and left out by kinds that were not tried yet."""
+    told, _ = diffed(folder, *sides, "--json")
+    rows, wrong = rows_of(told), []
+    for kind in {kind_of(row) for row in rows} - tried:
+        tried.add(kind)
+        denied, status = diffed(folder, *sides, "--json", "--deny", kind)
+        wrong += [f"{kind} is not denied: {denied}"] * ((denied, status) != (told, 1))
+        left, status = diffed(folder, *sides, "--json", "--deny", kind, "--allow", kind)
+        others = [row for row in rows if kind_of(row) != kind]
+        wrong += [f"{kind} is not left out: {left}"] * ((rows_of(left), status) != (others, 0))
+    return wrong
+
+
 def main():
+    tried = set()
     with tempfile.TemporaryDirectory() as scratch:
         wrong = [f"{what}: {it}" for what, *rest in CHANGES for it in wrong_of(Path(scratch), *rest)]
-    print("\n".join([*wrong, f"{len(CHANGES)} changes, {len(wrong)} faults of how they are told"]))
+        for _, *change, _ in CHANGES:
+            for way in (1, -1):
+                wrong += wrong_kinds(Path(scratch), sides_of(*change)[::way], tried)
+    wrong += [f"the kind {kind} is {'not told' if kind in KINDS else 'unknown'}" for kind in sorted(KINDS ^ tried)]
+    counts = f"{len(CHANGES)} changes, {len(tried)} kinds, {len(wrong)} faults of how they are told"
+    print("\n".join([*wrong, counts]))
     sys.exit(bool(wrong))
 
 
