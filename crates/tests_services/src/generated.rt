@@ -2,7 +2,6 @@
 use crate::agreement::{script_of, tell_core, tell_seats};
 use crate::asserted::{OrFail, assert_equal};
 use crate::page::Page;
-use crate::samples::BOTH;
 use metric_audit::Audited;
 use metric_history::Book;
 use metric_journal::JournalBook;
@@ -29,6 +28,20 @@ budget = [{ instrument = 0, amount = 2 }, { instrument = 1, amount = 1 }]
 [[recorder]]
 name = 's'
 budget = [{ instrument = 1, amount = 1 }]
+";
+
+// A cumulative reader and a delta reader, each with two streams of the first counter.
+const TWICE: &str = "format = 1
+[[reader]]
+name = 'C'
+[[reader]]
+name = 'D'
+temporality = { counter = 'delta' }
+[[view]]
+instrument_name = 'A'
+[[view]]
+instrument_name = 'A'
+stream_name = 'all'
 ";
 
 // What an event may be.
@@ -63,8 +76,8 @@ const SEEN: &[&str] = &[
     "Closed",
     "Budget",
     "NoSpare",
-    "stream 0",
-    "stream 3",
+    "stream 1",
+    "stream 5",
 ];
 
 // Sixteen events that the digits of a number choose.
@@ -87,11 +100,11 @@ fn is_answered<R: Abort + Wait, B: Book>(
     wanted: &str,
 ) -> [bool; 3] {
     let mut core = Page::new(rt, alloc);
-    tell_core::<R, B>(&mut core, SHARED, BOTH, script);
+    tell_core::<R, B>(&mut core, SHARED, TWICE, script);
     let mut seats = Page::new(rt, alloc);
-    tell_seats::<R, B>(&mut seats, SHARED, BOTH, script, 1);
+    tell_seats::<R, B>(&mut seats, SHARED, TWICE, script, 1);
     let mut lanes = Page::new(rt, alloc);
-    tell_seats::<R, B>(&mut lanes, SHARED, BOTH, script, 2);
+    tell_seats::<R, B>(&mut lanes, SHARED, TWICE, script, 2);
     [
         core.text() == wanted,
         seats.text() == wanted,
@@ -104,7 +117,7 @@ fn agreement<R: Abort + Wait>(seen: &mut Page<'_, R>, number: u64) -> [[bool; 3]
     let (rt, alloc) = (seen.rt, seen.alloc);
     let script = script_of(rt, alloc, &input_of(rt, alloc, number));
     let mut plain = Page::new(rt, alloc);
-    tell_core::<R, JournalBook>(&mut plain, SHARED, BOTH, &script);
+    tell_core::<R, JournalBook>(&mut plain, SHARED, TWICE, &script);
     let wanted = plain.text();
     seen.push(wanted);
     [

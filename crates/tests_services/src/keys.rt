@@ -1,7 +1,7 @@
 //! Recordings by set keys, one by one and as lists.
 use crate::asserted::OrFail;
 use crate::page::Page;
-use crate::samples::{CODES, MAIN, PAIRS, ROUTES};
+use crate::samples::{CODES, LONG, MAIN, PAIRS, ROUTES};
 use crate::seats::{Seats, seats_of};
 use metric_provider::{Measurement, Recorder};
 use metric_sdk::MeterProvider;
@@ -77,6 +77,37 @@ accepted
         told: "Ok(())
 Some(Told { count: 3, amount: 6 })
 0 0, 0 to 3, 0 to 10: stream 0 [1 0] 6 [2 0] 3
+",
+    },
+    // A long list, whose last recordings have set keys and values of their own.
+    Case {
+        catalogue: LONG,
+        run: 1,
+        steps: &[Step::List(&[
+            (1, 1),
+            (1, 1),
+            (1, 1),
+            (1, 1),
+            (1, 1),
+            (1, 1),
+            (1, 1),
+            (1, 1),
+            (1, 1),
+            (1, 1),
+            (1, 1),
+            (1, 1),
+            (1, 1),
+            (1, 1),
+            (1, 1),
+            (1, 1),
+            (2, 1),
+            (2, 2),
+            (1, 3),
+            (2, 4),
+        ])],
+        told: "Ok(())
+Some(Told { count: 20, amount: 6 })
+0 0, 0 to 20, 0 to 10: stream 0 [1 0] 19 [2 0] 7
 ",
     },
     // The budget ends in a list, or before one.

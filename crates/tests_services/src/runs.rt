@@ -467,7 +467,7 @@ record 5 0 6
 collect 0 0 10
 ";
 
-// Each records again, and then nobody.
+// Each records again, and then nobody. A collection of an earlier moment has the time of the one before.
 const AGAIN: &str = "record 5 0 1
 record 4 0 1
 record 3 0 1
@@ -475,6 +475,8 @@ record 2 0 1
 record 1 0 1
 record 0 0 1
 collect 0 0 20
+collect 0 0 15
+collect 0 0 30
 close 0
 record 0 0 1
 record 1 0 1
@@ -511,6 +513,8 @@ accepted
 accepted
 accepted
 0 0, 0 to 12, 7 to 20: stream 0 [0 0] 27
+0 0, 0 to 12, 7 to 20: stream 0 [0 0] 27
+0 0, 0 to 12, 7 to 30: stream 0 [0 0] 27
 done
 8 Closed
 8 Closed

@@ -68,6 +68,20 @@ name = 'r'
 budget = [{ instrument = 0, amount = 3 }]
 ";
 
+/// The same with a budget of twenty recordings.
+pub(crate) const LONG: &str = "format = 1
+[[meter]]
+name = 'm'
+[[meter.instrument]]
+name = 'c'
+kind = 'counter'
+range = [1, 9]
+key = [{ name = 'route', values = ['/a', '/b'] }]
+[[recorder]]
+name = 'r'
+budget = [{ instrument = 0, amount = 20 }]
+";
+
 /// A counter with two of the four combinations of two keys, and a budget of two recordings.
 pub(crate) const PAIRS: &str = "format = 2
 [[meter]]
