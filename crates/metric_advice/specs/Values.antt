@@ -64,11 +64,13 @@ ends_before hi boundaries =
 abbrev pub look_far : ℤ → ℤ → List ℤ → Bool
 look_far lo hi boundaries = are_most_outside lo hi boundaries || ends_before hi boundaries
 
--- there are several values, some boundary tells them apart, and they look like that
+-- there are several values, and some boundary tells them apart
+abbrev pub tell_apart : ℤ → ℤ → List ℤ → Bool
+tell_apart lo hi boundaries = int_lt lo hi && not (list_all (is_outside lo hi) boundaries)
+
+-- they do, and look like that
 unfoldable pub are_far : ℤ → ℤ → List ℤ → Bool
-are_far lo hi boundaries =
-    int_lt lo hi
-    && (not (list_all (is_outside lo hi) boundaries) && look_far lo hi boundaries)
+are_far lo hi boundaries = tell_apart lo hi boundaries && look_far lo hi boundaries
 
 abbrev pub is_one_bucket_of : Option Instrument → StreamAggregation → Bool
 is_one_bucket_of None aggregation = false

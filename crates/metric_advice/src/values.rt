@@ -1,7 +1,7 @@
 //! Remarks on the values that an instrument may be recorded with.
 ghost use Rattle.std.specs.Prelude.{◌≡◌, ◌==◌, ◌<◌, ◌≤◌, ◌*ℤ◌, ◌++◌, ◌||◌, OnOk, Some, count_by, int_le, int_lt, length, not, pos};
 ghost use Rattle.std.specs.List.{flat_map, list_all, list_any};
-ghost use Rattle.metric_advice.specs.Values.{allows_nothing, are_far, are_far_of, are_most_outside, ends_before, has_far, has_one_value, is_one_bucket, is_one_bucket_of, is_outside, is_sum, look_far, stream_remark, stream_remarks, tells_nothing, value_remarks};
+ghost use Rattle.metric_advice.specs.Values.{allows_nothing, are_far, are_far_of, are_most_outside, ends_before, has_far, has_one_value, is_one_bucket, is_one_bucket_of, is_outside, is_sum, look_far, stream_remark, stream_remarks, tell_apart, tells_nothing, value_remarks};
 
 use crate::linting::add_when;
 use crate::remark::Remark;
@@ -154,11 +154,16 @@ fn are_far_of(instrument: &Instrument, aggregation: &StreamAggregation) -> bool
 }
 
 // Whether boundaries tell values of a range apart, and most are outside, or the range ends far beyond the last one.
-#[tactic(auto, unfolding(crate::specs::Values::are_far))]
 fn are_far(lo: i64, hi: i64, boundaries: &[i64]) -> bool
     ensures { result ≡ are_far lo hi boundaries.now }
 {
-    lo < hi && !are_outside(lo, hi, boundaries) && look_far(lo, hi, boundaries)
+    tell_apart(lo, hi, boundaries) && look_far(lo, hi, boundaries)
+}
+
+fn tell_apart(lo: i64, hi: i64, boundaries: &[i64]) -> bool
+    ensures { result ≡ tell_apart lo hi boundaries.now }
+{
+    lo < hi && !are_outside(lo, hi, boundaries)
 }
 
 // Whether boundaries look like numbers of another unit than a range.
