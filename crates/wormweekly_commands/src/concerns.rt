@@ -22,8 +22,6 @@ pub(crate) trait Kinded {
 }
 
 impl Kinded for Remark {
-    ghost use Rattle.metric_advice.specs.Kinds.{kind_of};
-
     ghost kind = { kind_of };
 
     fn kind_name(&self) -> &'static str {
@@ -32,9 +30,9 @@ impl Kinded for Remark {
 }
 
 impl Kinded for Change {
-    ghost use Rattle.metric_changes.specs.Kinds.{kind_of};
+    ghost use Rattle.metric_changes.specs.Kinds.{kind_of as kind_of_change};
 
-    ghost kind = { kind_of };
+    ghost kind = { kind_of_change };
 
     fn kind_name(&self) -> &'static str {
         self.kind()

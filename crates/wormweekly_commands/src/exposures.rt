@@ -62,7 +62,8 @@ fn add_outlet(
     asked: Asked<'_>,
 ) -> Result<(), AllocError>
     ensures { OnOk result (found.new.items ≡ found.old.items
-        ++ outlet_exposures asked.words.now asked.outlet catalogue.now config.now streams.now) }
+        ++ outlet_exposures asked.entry.words.now asked.entry.outlet
+        catalogue.now config.now streams.now) }
 {
     for reader in 0..config.readers().len() as u32 {
         add_told(alloc, found, catalogue, config, streams, asked, reader)?;
@@ -81,7 +82,8 @@ fn add_told(
     reader: u32,
 ) -> Result<(), AllocError>
     ensures { OnOk result (found.new.items ≡ found.old.items
-        ++ told_exposures asked.words.now asked.outlet catalogue.now config.now streams.now reader) }
+        ++ told_exposures asked.entry.words.now asked.entry.outlet
+        catalogue.now config.now streams.now reader) }
 {
     if is_told(config, streams, asked, reader) {
         add_reader(alloc, found, catalogue, streams, asked.outlet, reader)?;
@@ -91,7 +93,8 @@ fn add_told(
 
 // Whether a reader is told of: it is named, or it can be served, or none can.
 fn is_told(config: &Config, streams: &[Stream], asked: Asked<'_>, reader: u32) -> bool
-    ensures { result ≡ is_told asked.words.now asked.outlet config.now streams.now reader }
+    ensures { result
+        ≡ is_told asked.entry.words.now asked.entry.outlet config.now streams.now reader }
 {
     let Asked { words, outlet } = asked;
     names_reader(words, outlet, name_at(config, reader))

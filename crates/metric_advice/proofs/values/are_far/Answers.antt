@@ -11,9 +11,9 @@ returns-then-tell_apart c =
     let hi = c.args.hi in
     let boundaries = c.args.boundaries.now in
     let is : c.tell_apart.result ≡ tell_apart lo hi boundaries =
-        c.tell_apart.ensures
-        ∙ ap (λ (v : ℤ). tell_apart v (to_z w64 (of_z w64 hi)) boundaries) (to_z-of_z w64 lo c.ranges.lo)
-        ∙ ap (λ (v : ℤ). tell_apart lo v boundaries) (to_z-of_z w64 hi c.ranges.hi) in
+    c.tell_apart.ensures
+    ∙ ap (λ (v : ℤ). tell_apart v (to_z w64 (of_z w64 hi)) boundaries) (to_z-of_z w64 lo c.ranges.lo)
+    ∙ ap (λ (v : ℤ). tell_apart lo v boundaries) (to_z-of_z w64 hi c.ranges.hi) in
     c.look_far.ensures
     ∙ ap (λ (v : ℤ). look_far v (to_z w64 (of_z w64 hi)) boundaries) (to_z-of_z w64 lo c.ranges.lo)
     ∙ ap (λ (v : ℤ). look_far lo v boundaries) (to_z-of_z w64 hi c.ranges.hi)
@@ -26,7 +26,7 @@ returns-else-tell_apart c =
     let hi = c.args.hi in
     let boundaries = c.args.boundaries.now in
     let is : c.tell_apart.result ≡ tell_apart lo hi boundaries =
-        c.tell_apart.ensures
-        ∙ ap (λ (v : ℤ). tell_apart v (to_z w64 (of_z w64 hi)) boundaries) (to_z-of_z w64 lo c.ranges.lo)
-        ∙ ap (λ (v : ℤ). tell_apart lo v boundaries) (to_z-of_z w64 hi c.ranges.hi) in
+    c.tell_apart.ensures
+    ∙ ap (λ (v : ℤ). tell_apart v (to_z w64 (of_z w64 hi)) boundaries) (to_z-of_z w64 lo c.ranges.lo)
+    ∙ ap (λ (v : ℤ). tell_apart lo v boundaries) (to_z-of_z w64 hi c.ranges.hi) in
     c.if-tell_apart.false ∙ ap (λ (b : Bool). b && look_far lo hi boundaries) (sym (sym is ∙ c.if-tell_apart.false))
