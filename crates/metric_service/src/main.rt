@@ -105,14 +105,19 @@ fn main(rt: HostRuntime) -> Result<()> {
             run(&rt, service, recorders, file)
         }
         Err(SetupFault::Catalogue(fault)) => {
-            let told = diagnose_catalogue(alloc, NamedText { name: catalogue, text: &first }, fault)?;
+            let told = diagnose_catalogue(alloc, named(catalogue, &first), fault)?;
             bail!("{told}")
         }
         Err(SetupFault::Config(fault)) => {
-            bail!("{}", diagnose_config(alloc, NamedText { name: config, text: &second }, fault)?)
+            let told = diagnose_config(alloc, named(config, &second), fault)?;
+            bail!("{told}")
         }
         Err(fault) => bail!("{fault}"),
     }
+}
+
+fn named<'a>(name: &'a str, text: &'a str) -> NamedText<'a> {
+    NamedText { name, text }
 }
 
 // Tells each reader where its batches go, lets the workers work, and ends with what each instrument came to.
