@@ -3,16 +3,12 @@ package wormweekly
 import "sync/atomic"
 
 // What is kept of an instrument by a recorder: recordings that it is still to make, so that one call of C makes many.
-// There are never more than the recorder has left, so that each is made. It is looked at while the recorder is held.
+// There are never more than the recorder has left, so that each is made. It is looked at while the recorder is taken.
 type kept struct {
-	list   [mostKept]prepared
+	*keptList
 	cells  [mostKept]*cell // where the value is, of those that are still added to
-	length int
-	left   uint64 // how many more may be kept
-	joined uint64 // how many were added to one that was kept before
+	joined uint64          // how many were added to one that was kept before
 }
-
-const mostKept = 64
 
 func (own *kept) push(set setKey, value int64, in *cell) {
 	own.list[own.length], own.cells[own.length] = prepared{set, value}, in
@@ -23,6 +19,7 @@ func (own *kept) push(set setKey, value int64, in *cell) {
 func (own *kept) pop() {
 	own.length--
 	own.left++
+	own.cells[own.length] = nil
 }
 
 // Takes the values out of the cells, which are empty then.
@@ -35,9 +32,6 @@ func (own *kept) take() {
 		}
 	}
 }
-
-// Takes out the first ones, which were made.
-func (own *kept) drop(made int) { own.length = copy(own.list[:], own.list[made:own.length]) }
 
 // A cell has recordings of a bound set that are added up, to be made as one: in its upper bits how many, in the others
 // their sum; 0 where there are none. Then it is in no list, else in that of one recorder. Any goroutine adds to one
@@ -103,47 +97,68 @@ func (bound *Bound) isAdded(value int64) bool {
 
 // Keeps a recording, by a recorder that nobody uses and that has budget left, or answers why its attributes are
 // refused. False where it is neither.
-func (instrument *Instrument) keep(what *recording, in *cell) (answer uint32, isDone bool) {
+func (instrument *Instrument) keep(first int, what *recording, in *cell) (answer uint32, isDone bool) {
 	if how := &instrument.keeping; !how.isKept || what.isCountedIn || !how.has(what.value) {
 		return answerDone, false
 	}
-	recorders := instrument.run.recorders
-	first := instrument.run.first()
-	for step := range recorders {
-		recorder := recorders[(first+step)%len(recorders)]
-		if instrument.isSpent(recorder.number) || !recorder.mutex.TryLock() {
-			continue
-		}
+	instrument.byAny(first, func(recorder *Recorder) bool {
 		answer, isDone = recorder.keep(instrument, what, in)
-		recorder.mutex.Unlock()
-		if isDone {
-			break
-		}
-	}
+		return isDone
+	})
 	return answer, isDone
 }
 
+// The same by a recorder that is taken, and given back.
 func (recorder *Recorder) keep(on *Instrument, what *recording, in *cell) (answer uint32, isDone bool) {
-	own := recorder.kept[on.number]
-	if own == nil {
-		own = new(kept)
-		recorder.kept[on.number] = own
-	}
-	if (own.length == mostKept || own.left == 0) && !recorder.hasPlace(on, own) {
+	hasPlace := recorder.keptOf(on).hasPlace()
+	switch {
+	case !hasPlace && recorder.isEnded(on):
+		recorder.giveBack()
+		return answerDone, false
+	case !what.isSet:
+		made := recorder.give(what.attributes)
+		if !hasPlace {
+			return keep(recorder.at(on), made, what.value)
+		}
+		return keep(recorder.place(on, true), made, what.value)
+	case !hasPlace && !recorder.makesPlace(on):
 		return answerDone, false
 	}
-	set := what.set
-	if !what.isSet {
-		if set, answer = prepare(on.run.handles, on.number, recorder.number, what.attributes); answer != answerDone {
-			return answer, true
-		}
-	}
+	own := recorder.keptOf(on)
 	if in != nil && on.keeping.isJoined && isSmall(what.value) {
-		own.fill(&on.keeping, set, what.value, in)
+		own.fill(&on.keeping, what.set, what.value, in)
 	} else {
-		own.push(set, what.value, nil)
+		own.push(what.set, what.value, nil)
 	}
+	recorder.giveBack()
 	return answerDone, true
+}
+
+func (own *kept) hasPlace() bool { return own.length < mostKept && own.left > 0 }
+
+// Whether nothing may be kept any more.
+func (recorder *Recorder) isEnded(on *Instrument) bool {
+	return on.isClosed || recorder.keptOf(on).length == 0 && on.isSpent(recorder.number)
+}
+
+// Makes what is kept, so that there is place again, and takes the recorder again. Where another goroutine was quicker,
+// or there is no place, it is not taken.
+func (recorder *Recorder) makesPlace(on *Instrument) bool {
+	if !makePlace(recorder.at(on)) || !recorder.takeAs(isTaken) {
+		return false
+	}
+	if recorder.keptOf(on).hasPlace() {
+		return true
+	}
+	recorder.giveBack()
+	return false
+}
+
+func (recorder *Recorder) keptOf(on *Instrument) *kept {
+	if recorder.kept[on.number] == nil {
+		recorder.kept[on.number] = &kept{keptList: new(keptList)}
+	}
+	return recorder.kept[on.number]
 }
 
 // Begins a cell, or begins it anew, so that what it had is a recording of its own. There is place for one.
@@ -165,39 +180,25 @@ func (own *kept) fill(how *keeping, set setKey, value int64, in *cell) {
 	}
 }
 
-// Makes what is kept, so that there is place again; none where the budget is spent or the instrument is closed.
-func (recorder *Recorder) hasPlace(on *Instrument, own *kept) bool {
-	if on.isClosed || own.length == 0 && on.isSpent(recorder.number) {
-		return false
+// Where a recorder that is taken makes something else, before which what is kept is made. C gives it back.
+func (recorder *Recorder) at(on *Instrument) place {
+	if own := recorder.kept[on.number]; own != nil {
+		own.take()
 	}
-	on.mutex.Lock()
-	defer on.mutex.Unlock()
-	return recorder.handOver(on, own) == answerDone && own.left > 0
+	return recorder.place(on, true)
 }
 
-// Makes what is kept of an instrument, and looks at what is left. Both are held. What is refused, for want of memory
-// alone, stays.
-func (recorder *Recorder) handOver(on *Instrument, own *kept) uint32 {
-	own.take()
-	answer, made, left := handOver(on.run.handles, on.number, recorder.number, own.list[:], own.length)
-	own.drop(made)
-	own.left = left - uint64(own.length)
-	return answer
-}
-
-// Makes what is kept of an instrument, before something else is done by the recorder. Both are held. What is left is
-// another number after it.
-func (recorder *Recorder) makes(on *Instrument) uint32 {
+// Makes what is kept of an instrument by a recorder that is taken. Nothing may be kept after it where that closes.
+func (recorder *Recorder) makes(on *Instrument, isGivenBack, closes bool) uint32 {
 	own := recorder.kept[on.number]
-	if own == nil {
-		return answerDone
+	if own != nil && (own.length > 0 || closes) {
+		own.take()
+		return makeKept(recorder.place(on, isGivenBack), closes)
 	}
-	answer := uint32(answerDone)
-	if own.length > 0 {
-		answer = recorder.handOver(on, own)
+	if isGivenBack {
+		recorder.giveBack()
 	}
-	own.left = 0
-	return answer
+	return answerDone
 }
 
 // Makes what all recorders keep of an instrument: all that was recorded before. Meanwhile a cell that is full goes over
@@ -214,23 +215,19 @@ func (instrument *Instrument) makesAll() (answer uint32) {
 
 func (instrument *Instrument) makesEach() uint32 {
 	for _, recorder := range instrument.run.recorders {
-		recorder.mutex.Lock()
-		instrument.mutex.Lock()
-		answer := recorder.makes(instrument)
-		instrument.mutex.Unlock()
-		recorder.mutex.Unlock()
-		if answer != answerDone {
+		recorder.wait()
+		if answer := recorder.makes(instrument, true, false); answer != answerDone {
 			return answer
 		}
 	}
 	return answerDone
 }
 
-// The same while all recorders and instruments are held, with how many recordings were added to others.
-func (instrument *Instrument) makesAllHeld() (joined uint64, answer uint32) {
+// The same while all recorders are held, with how many recordings were added to others.
+func (instrument *Instrument) makesAllHeld(closes bool) (joined uint64, answer uint32) {
 	joined = instrument.joined
 	for _, recorder := range instrument.run.recorders {
-		if answer = recorder.makes(instrument); answer != answerDone {
+		if answer = recorder.makes(instrument, false, closes); answer != answerDone {
 			return joined, answer
 		}
 		if own := recorder.kept[instrument.number]; own != nil {

@@ -6,74 +6,7 @@ package wormweekly
 #cgo CFLAGS: -I${SRCDIR}/include -I${SRCDIR}/../include -I${SRCDIR}/../c
 #cgo LDFLAGS: -L${SRCDIR}/lib -L${SRCDIR}/../lib -L${SRCDIR}/../out -l:libwormweekly.a -lpthread
 #include <stdlib.h>
-#include <string.h>
-#include "wormweekly.h"
-
-enum { FEW_ATTRIBUTES = 8, FEW_BYTES = 512, MOST_ATTRIBUTES = 65 };
-
-// Room for the attributes of a call, of each recorder.
-typedef struct {
-    uint8_t texts[FEW_BYTES];
-    wormweekly_attribute attributes[FEW_ATTRIBUTES];
-} few_attributes;
-
-// Handles come as bytes to what is called most: cgo looks through what may have pointers into memory of Go.
-static uint32_t record_given(uint8_t *instrument, uint8_t *recorder, const uint8_t *texts, size_t length,
-                             const wormweekly_attribute *attributes, size_t count, int64_t value) {
-    return wormweekly_record((wormweekly_instrument *)instrument, (wormweekly_recorder *)recorder, texts, length,
-                             attributes, count, value);
-}
-
-static uint32_t record_set(uint8_t *instrument, uint8_t *recorder, uint64_t low, uint64_t high, int64_t value) {
-    wormweekly_prepared prepared;
-    memcpy(prepared.set, &low, sizeof low);
-    memcpy(prepared.set + 4, &high, sizeof high);
-    prepared.value = value;
-    return wormweekly_record_prepared((wormweekly_instrument *)instrument, (wormweekly_recorder *)recorder, &prepared);
-}
-
-typedef struct {
-    uint32_t answer;
-    uint64_t low, high;
-} found;
-
-static found prepare_given(uint8_t *recorder, uint32_t instrument, const uint8_t *texts, size_t length,
-                           const wormweekly_attribute *attributes, size_t count) {
-    found out = { 0, 0, 0 };
-    wormweekly_prepared prepared;
-    out.answer = wormweekly_prepare((wormweekly_recorder *)recorder, instrument, texts, length, attributes, count, &prepared);
-    if (out.answer == WORMWEEKLY_DONE) {
-        memcpy(&out.low, prepared.set, sizeof out.low);
-        memcpy(&out.high, prepared.set + 4, sizeof out.high);
-    }
-    return out;
-}
-
-typedef struct {
-    uint32_t answer;
-    size_t made;
-} listed;
-
-static listed record_list(uint8_t *instrument, uint8_t *recorder, const wormweekly_prepared *list, size_t length) {
-    listed done = { 0, 0 };
-    done.answer = wormweekly_record_list((wormweekly_instrument *)instrument, (wormweekly_recorder *)recorder, list,
-                                         length, &done.made);
-    return done;
-}
-
-typedef struct {
-    uint32_t answer;
-    size_t made;
-    uint64_t left;
-} handed;
-
-// The same, with how many recordings are left.
-static handed hand_over(uint8_t *instrument, uint8_t *recorder, const wormweekly_prepared *list, size_t length) {
-    listed done = record_list(instrument, recorder, list, length);
-    wormweekly_budget_out budget = { 0, 0, 0, 0 };
-    wormweekly_budget((wormweekly_instrument *)instrument, (wormweekly_recorder *)recorder, &budget);
-    return (handed){ done.answer, done.made, budget.left };
-}
+#include "shards.h"
 */
 import "C"
 
@@ -122,6 +55,16 @@ type texts struct {
 	start                          uint64
 }
 
+// A list of recordings that are kept, as C has it: how many there are, and how many more there may be.
+type keptList struct {
+	list         [mostKept]prepared
+	length, left uint64
+}
+
+const mostKept = C.MOST_KEPT
+
+var _ [unsafe.Sizeof(C.kept{})]byte = [unsafe.Sizeof(keptList{})]byte{}
+
 // Handles are lists of them in memory of C, each with room for one more, so that none is null.
 type handles struct {
 	counts      C.wormweekly_counts
@@ -129,6 +72,8 @@ type handles struct {
 	recorders   *C.wormweekly_recorder
 	readers     *C.wormweekly_reader
 	rooms       *C.few_attributes
+	guards      *C.guarded
+	shards      *C.shard
 }
 
 func bytesOf(text string) (*C.uint8_t, C.size_t) {
@@ -141,6 +86,15 @@ func (own *handles) makeRoom() {
 	own.recorders = (*C.wormweekly_recorder)(C.calloc(own.counts.recorders+1, C.sizeof_wormweekly_recorder))
 	own.readers = (*C.wormweekly_reader)(C.calloc(own.counts.readers+1, C.sizeof_wormweekly_reader))
 	own.rooms = (*C.few_attributes)(C.calloc(own.counts.recorders+1, C.sizeof_few_attributes))
+	own.guards = (*C.guarded)(C.calloc(own.counts.instruments+1, C.sizeof_guarded))
+	own.shards = (*C.shard)(C.calloc(own.counts.recorders*own.counts.instruments+1, C.sizeof_shard))
+}
+
+// What was opened is used from here on.
+func (own *handles) opened() *handles {
+	C.fill_shards(own.shards, own.guards, own.instruments, own.recorders, &own.counts)
+	runtime.SetFinalizer(own, (*handles).free)
+	return own
 }
 
 // Opens what there is room for, and tells how much there has to be.
@@ -180,8 +134,7 @@ func openHandles(of *texts) (*handles, uint32, string) {
 		own.free()
 		return nil, answer, string(fault[:min(length, len(fault))])
 	}
-	runtime.SetFinalizer(own, (*handles).free)
-	return own, answerDone, ""
+	return own.opened(), answerDone, ""
 }
 
 // Opens the next run of the plan, in room for as much as there is of this one.
@@ -195,8 +148,7 @@ func (own *handles) next(start uint64) (*handles, uint32) {
 		next.free()
 		return nil, uint32(answer)
 	}
-	runtime.SetFinalizer(next, (*handles).free)
-	return next, answerDone
+	return next.opened(), answerDone
 }
 
 func (own *handles) free() {
@@ -213,6 +165,7 @@ func (own *handles) free() {
 	C.free(unsafe.Pointer(own.recorders))
 	C.free(unsafe.Pointer(own.readers))
 	C.free(unsafe.Pointer(own.rooms))
+	C.free_shards(own.shards, own.guards, &own.counts)
 	runtime.SetFinalizer(own, nil)
 }
 
@@ -228,12 +181,33 @@ func (own *handles) reader(at int) *C.wormweekly_reader {
 	return &unsafe.Slice(own.readers, int(own.counts.readers))[at]
 }
 
-func (own *handles) instrumentBytes(at int) *C.uint8_t {
-	return (*C.uint8_t)(unsafe.Pointer(own.instrument(at)))
+func (own *handles) guard(at int) *C.guarded {
+	return &unsafe.Slice(own.guards, int(own.counts.instruments))[at]
 }
 
-func (own *handles) recorderBytes(at int) *C.uint8_t {
-	return (*C.uint8_t)(unsafe.Pointer(own.recorder(at)))
+// A place is where a call is at work: a recorder that was taken, on an instrument, and what is kept there. C gives the
+// recorder back, if it is to.
+type place struct {
+	at, list *C.uint8_t
+	taken    *C.uint32_t
+	spent    *C.uint64_t
+}
+
+func (recorder *Recorder) place(on *Instrument, isGivenBack bool) place {
+	own := recorder.run.handles
+	shards := unsafe.Slice(own.shards, int(own.counts.recorders*own.counts.instruments))
+	made := place{
+		at:    (*C.uint8_t)(unsafe.Pointer(&shards[recorder.number*int(own.counts.instruments)+on.number])),
+		spent: (*C.uint64_t)(unsafe.Pointer(&on.spent)),
+	}
+	if kept := recorder.kept[on.number]; kept != nil {
+		made.list = (*C.uint8_t)(unsafe.Pointer(kept.keptList))
+	}
+	if isGivenBack {
+		made.taken = (*C.uint32_t)(unsafe.Pointer(&recorder.taken))
+		recorder.taken.Store(recorder.taken.Load()) // what was done until here comes before what the next one does
+	}
+	return made
 }
 
 // Given attributes, in memory of C: the room of a recorder, or, where they are many, their own.
@@ -251,13 +225,14 @@ func most(attributes []Attr) []Attr {
 	return attributes[:min(len(attributes), C.MOST_ATTRIBUTES)]
 }
 
-func (own *handles) give(recorder int, attributes []Attr) given {
+func (recorder *Recorder) give(attributes []Attr) given {
 	attributes = most(attributes)
+	own := recorder.run.handles
 	length := lengthOf(attributes)
 	if length > C.FEW_BYTES || len(attributes) > C.FEW_ATTRIBUTES {
 		return giveMany(attributes)
 	}
-	room := &unsafe.Slice(own.rooms, int(own.counts.recorders))[recorder]
+	room := &unsafe.Slice(own.rooms, int(own.counts.recorders))[recorder.number]
 	made := given{texts: &room.texts[0], attributes: &room.attributes[0], length: length, count: len(attributes)}
 	made.fill(attributes)
 	return made
@@ -299,47 +274,63 @@ func (made given) free() {
 	}
 }
 
-func record(own *handles, instrument, recorder int, attributes []Attr, value int64) uint32 {
-	made := own.give(recorder, attributes)
-	answer := C.record_given(own.instrumentBytes(instrument), own.recorderBytes(recorder), made.texts,
-		C.size_t(made.length), made.attributes, C.size_t(made.count), C.int64_t(value))
+func record(by place, made given, value int64) uint32 {
+	answer := C.record_given(by.at, by.list, by.taken, by.spent, made.texts, C.size_t(made.length), made.attributes,
+		C.size_t(made.count), C.int64_t(value))
 	made.free()
 	return uint32(answer)
 }
 
-func recordSet(own *handles, instrument, recorder int, set setKey, value int64) uint32 {
-	return uint32(C.record_set(own.instrumentBytes(instrument), own.recorderBytes(recorder),
-		C.uint64_t(set.low), C.uint64_t(set.high), C.int64_t(value)))
+func recordSet(by place, set setKey, value int64) uint32 {
+	return uint32(C.record_set(by.at, by.list, by.taken, by.spent, C.uint64_t(set.low), C.uint64_t(set.high),
+		C.int64_t(value)))
 }
 
-func recordList(own *handles, instrument, recorder int, list []prepared) (uint32, int) {
-	done := C.record_list(own.instrumentBytes(instrument), own.recorderBytes(recorder),
-		(*C.wormweekly_prepared)(unsafe.Pointer(&list[0])), C.size_t(len(list)))
+func countIn(by place, set setKey) uint32 {
+	return uint32(C.count_in(by.at, by.list, by.taken, by.spent, C.uint64_t(set.low), C.uint64_t(set.high)))
+}
+
+func countOut(by place, set setKey) uint32 {
+	return uint32(C.count_out(by.at, by.list, by.taken, by.spent, C.uint64_t(set.low), C.uint64_t(set.high)))
+}
+
+func recordList(by place, list []prepared) (uint32, int) {
+	done := C.record_list(by.at, by.list, by.taken, (*C.wormweekly_prepared)(unsafe.Pointer(&list[0])),
+		C.size_t(len(list)))
 	return uint32(done.answer), int(done.made)
 }
 
-// Makes the first recordings of a list, and tells how many of them were made, and how many are left.
-func handOver(own *handles, instrument, recorder int, list []prepared, length int) (answer uint32, made int, left uint64) {
-	done := C.hand_over(own.instrumentBytes(instrument), own.recorderBytes(recorder),
-		(*C.wormweekly_prepared)(unsafe.Pointer(&list[0])), C.size_t(length))
-	return uint32(done.answer), int(done.made), uint64(done.left)
+func keep(by place, made given, value int64) (answer uint32, isDone bool) {
+	done := C.keep_given(by.at, by.list, by.taken, made.texts, C.size_t(made.length), made.attributes,
+		C.size_t(made.count), C.int64_t(value))
+	made.free()
+	return uint32(done.answer), done.is_done == 1
 }
 
-func prepare(own *handles, instrument, recorder int, attributes []Attr) (setKey, uint32) {
-	made := own.give(recorder, attributes)
-	out := C.prepare_given(own.recorderBytes(recorder), C.uint32_t(instrument), made.texts, C.size_t(made.length),
-		made.attributes, C.size_t(made.count))
+func makePlace(by place) bool { return C.make_place(by.at, by.list, by.taken) == 1 }
+
+func makeKept(by place, closes bool) uint32 {
+	if closes {
+		return uint32(C.make_kept(by.at, by.list, by.taken, 1))
+	}
+	return uint32(C.make_kept(by.at, by.list, by.taken, 0))
+}
+
+func prepare(by place, made given) (setKey, uint32) {
+	out := C.prepare_by(by.at, by.taken, made.texts, C.size_t(made.length), made.attributes, C.size_t(made.count))
 	made.free()
 	return setKey{uint64(out.low), uint64(out.high)}, uint32(out.answer)
 }
 
-// What a recording is refused for, of what it says, "" where that is in order. Needs the recorder alone.
-func explain(own *handles, instrument, recorder int, attributes []Attr, value int64) string {
-	made := own.give(recorder, attributes)
-	defer made.free()
+// What a recording is refused for, of what it says, "" where that is in order. Any recorder tells.
+func explain(on *Instrument, attributes []Attr, value int64) string {
 	text, _ := askText(func(out *C.uint8_t, room C.size_t, length *C.size_t) C.uint32_t {
-		return C.wormweekly_explain(own.recorder(recorder), C.uint32_t(instrument), made.texts, C.size_t(made.length),
-			made.attributes, C.size_t(made.count), C.int64_t(value), out, room, length)
+		recorder := on.run.take()
+		made := recorder.give(attributes)
+		defer made.free()
+		by := recorder.place(on, true)
+		return C.explain_by(by.at, by.taken, made.texts, C.size_t(made.length), made.attributes, C.size_t(made.count),
+			C.int64_t(value), out, room, length)
 	})
 	return text
 }
@@ -360,38 +351,50 @@ func lint(catalogue, config string) (string, uint32) {
 	}
 }
 
-func grant(own *handles, instrument, recorder int, amount uint64) uint32 {
-	return uint32(C.wormweekly_grant(own.instrument(instrument), C.uint32_t(recorder), C.uint64_t(amount)))
+func grant(on *Instrument, recorder int, amount uint64) uint32 {
+	return uint32(C.grant_on(on.run.handles.guard(on.number), (*C.uint64_t)(unsafe.Pointer(&on.spent)),
+		C.uint32_t(recorder), C.uint64_t(amount)))
 }
 
-func ask(own *handles, instrument, recorder int, amount uint64) uint32 {
-	return uint32(C.wormweekly_ask(own.instrument(instrument), own.recorder(recorder), C.uint64_t(amount)))
+func ask(by place, amount uint64) uint32 {
+	return uint32(C.ask_by(by.at, by.list, by.taken, by.spent, C.uint64_t(amount)))
 }
 
-func budget(own *handles, instrument, recorder int) (Budget, uint32) {
+func askPart(by place, recorders int) uint32 {
+	return uint32(C.ask_part(by.at, by.list, by.taken, by.spent, C.size_t(recorders)))
+}
+
+func budget(by place) (Budget, uint32) {
 	var out C.wormweekly_budget_out
-	answer := C.wormweekly_budget(own.instrument(instrument), own.recorder(recorder), &out)
+	answer := C.budget_by(by.at, by.list, by.taken, &out)
 	return Budget{uint64(out.declared), uint64(out.granted), uint64(out.spent), uint64(out.left)}, uint32(answer)
 }
 
 func spare(own *handles, instrument int) (Spare, uint32) {
 	var out C.wormweekly_spare_out
-	answer := C.wormweekly_spare(own.instrument(instrument), &out)
+	answer := C.spare_on(own.guard(instrument), &out)
 	return Spare{uint64(out.declared), uint64(out.granted), uint64(out.left)}, uint32(answer)
 }
 
 func closeInstrument(own *handles, instrument int) uint32 {
-	return uint32(C.wormweekly_close(own.instrument(instrument)))
+	return uint32(C.close_on(own.guard(instrument)))
 }
 
 func collect(own *handles, instrument, reader int, now uint64) uint32 {
-	return uint32(C.wormweekly_collect(own.instrument(instrument), own.reader(reader), C.uint64_t(now)))
+	return uint32(C.collect_on(own.guard(instrument), own.reader(reader), C.uint64_t(now)))
 }
 
 func settle(own *handles, instrument int) (Total, uint32) {
 	var out C.wormweekly_total
-	answer := C.wormweekly_settle(own.instrument(instrument), own.recorders, own.counts.recorders, &out)
+	answer := C.settle_on(own.guard(instrument), own.recorders, own.counts.recorders, &out)
 	return totalOf(uint64(out.count), out.negative == 1, uint64(out.high), uint64(out.low)), uint32(answer)
+}
+
+// How often a thread waited for an instrument, and the longest such wait.
+func waitsOn(own *handles, instrument int) (count, longest uint64) {
+	var waits, nanoseconds C.uint64_t
+	C.waits_on(own.guard(instrument), &waits, &nanoseconds)
+	return uint64(waits), uint64(nanoseconds)
 }
 
 // Asks for bytes until there is room for all of them.

@@ -24,7 +24,7 @@ type Metrics struct {
 }
 
 // A run owns the handles, which are looked at while a recorder, an instrument or a reader is held, and changed while
-// all are. Recorders are held before an instrument, in their order.
+// all are. Recorders are held before an instrument, in their order. No recording holds an instrument: C does.
 type run struct {
 	handles     *handles
 	number      uint64 // how many runs ended in its place
@@ -33,6 +33,7 @@ type run struct {
 	recorders   []*Recorder
 	readers     []*Reader
 	mask        uint32 // of a hint: less than twice as many as there are recorders
+	waiting     waiting
 }
 
 // An Option says more of how a run is opened.
@@ -94,7 +95,7 @@ func newMetrics(own *run, warnings string) *Metrics {
 	}
 	for number := 0; number < int(handles.counts.recorders); number++ {
 		own.recorders = append(own.recorders, &Recorder{run: own, number: number, name: name(handles, recorderName, number),
-			underWay: make([]uint64, len(own.instruments)), kept: make([]*kept, len(own.instruments))})
+			kept: make([]*kept, len(own.instruments))})
 	}
 	for number := 0; number < int(handles.counts.readers); number++ {
 		own.readers = append(own.readers, &Reader{run: own, number: number, name: name(handles, readerName, number)})
@@ -187,6 +188,20 @@ func (instrument *Instrument) partLeft() (float64, error) {
 	return left / most, err
 }
 
+// Waits answers how often recordings found all recorders in use, since the plan was opened, and the longest time that
+// one waited for a recorder or an instrument.
+func (metrics *Metrics) Waits() Waits {
+	own := metrics.run
+	own.stop()
+	defer own.goOn()
+	var counted waiting
+	counted.addOf(own.handles, len(own.instruments))
+	own.waiting.mutex.Lock()
+	defer own.waiting.mutex.Unlock()
+	counted.all.add(own.waiting.all.Count, own.waiting.all.Longest)
+	return counted.all
+}
+
 // Ended is a run that has ended, with the total of each instrument, in order. Its instruments are closed; its readers
 // collect them as they would have.
 type Ended struct {
@@ -231,8 +246,8 @@ func (own *run) next(start time.Time) (*handles, error) {
 	if len(own.recorders) == 0 {
 		return nil, errorOf(answerUnknownRecorder)
 	}
-	own.recorders[0].mutex.Lock()
-	defer own.recorders[0].mutex.Unlock()
+	own.recorders[0].wait()
+	defer own.recorders[0].giveBack()
 	next, answer := own.handles.next(nanoseconds(start))
 	return next, errorOf(answer)
 }
@@ -244,6 +259,7 @@ func (own *run) change(next *handles) (before *handles, totals []Total, joined [
 	if totals, joined, err = own.settle(); err != nil {
 		return nil, nil, nil, err
 	}
+	own.waiting.addOf(own.handles, len(own.instruments))
 	before, own.handles = own.handles, next
 	own.number++
 	for _, instrument := range own.instruments {
@@ -252,7 +268,7 @@ func (own *run) change(next *handles) (before *handles, totals []Total, joined [
 	}
 	for _, recorder := range own.recorders {
 		for at := range own.instruments {
-			recorder.underWay[at], recorder.kept[at] = 0, nil
+			recorder.kept[at] = nil
 		}
 	}
 	return before, totals, joined, nil
@@ -261,7 +277,7 @@ func (own *run) change(next *handles) (before *handles, totals []Total, joined [
 // Waits for all recorders and instruments, and keeps them.
 func (own *run) stop() {
 	for _, recorder := range own.recorders {
-		recorder.mutex.Lock()
+		recorder.wait()
 	}
 	for _, instrument := range own.instruments {
 		instrument.mutex.Lock()
@@ -273,14 +289,14 @@ func (own *run) goOn() {
 		instrument.mutex.Unlock()
 	}
 	for _, recorder := range own.recorders {
-		recorder.mutex.Unlock()
+		recorder.giveBack()
 	}
 }
 
 // Makes what is kept, and settles. Of each instrument, with its total, how many recordings were added to others before.
 func (own *run) settle() (totals []Total, joined []uint64, err error) {
 	for number, instrument := range own.instruments {
-		added, answer := instrument.makesAllHeld()
+		added, answer := instrument.makesAllHeld(false)
 		if answer != answerDone {
 			return nil, nil, errorOn(instrument, answer)
 		}
@@ -315,7 +331,7 @@ type Instrument struct {
 	// what is written often is not in lines of cache of what is only read
 	_     [64]byte
 	mutex sync.Mutex
-	// the recorders that had no budget left, a bit for each; changed while the instrument is held
+	// the recorders that had no budget left, a bit for each; C changes it while it has the instrument
 	spent atomic.Uint64
 	// how many durations were above its range, and how many values were replaced
 	clamped  atomic.Uint64
@@ -353,10 +369,10 @@ func (instrument *Instrument) Bind(attributes ...Attr) (Bound, error) {
 		return Bound{}, errorOn(instrument, answerUnknownRecorder)
 	}
 	recorder := own.take()
-	defer recorder.mutex.Unlock()
-	set, answer := prepare(own.handles, instrument.number, recorder.number, attributes)
+	made := recorder.give(attributes)
+	set, answer := prepare(recorder.place(instrument, true), made)
 	if answer != answerDone {
-		return Bound{}, errorSaid(instrument, answer, recorder.number, attributes, 0)
+		return Bound{}, errorSaid(instrument, answer, attributes, 0)
 	}
 	return Bound{instrument, set, new(cell)}, nil
 }
@@ -387,8 +403,8 @@ func (instrument *Instrument) answerTo(attribute Attr) uint32 {
 		return answerUnknownRecorder
 	}
 	recorder := own.take()
-	defer recorder.mutex.Unlock()
-	_, answer := prepare(own.handles, instrument.number, recorder.number, []Attr{attribute})
+	made := recorder.give([]Attr{attribute})
+	_, answer := prepare(recorder.place(instrument, true), made)
 	return answer
 }
 
@@ -402,8 +418,7 @@ func (instrument *Instrument) Grant(recorder *Recorder, amount uint64) error {
 	}
 	instrument.mutex.Lock()
 	defer instrument.mutex.Unlock()
-	answer := grant(instrument.run.handles, instrument.number, recorder.number, amount)
-	return errorOn(instrument, instrument.granted(answer))
+	return errorOn(instrument, grant(instrument, recorder.number, amount))
 }
 
 // Spare is what may be granted beside the budgets.
@@ -419,7 +434,7 @@ func (instrument *Instrument) Close() error {
 	own := instrument.run
 	own.stop()
 	defer own.goOn()
-	if _, answer := instrument.makesAllHeld(); answer != answerDone {
+	if _, answer := instrument.makesAllHeld(true); answer != answerDone {
 		return errorOn(instrument, answer)
 	}
 	instrument.isClosed = true

@@ -1,7 +1,6 @@
 package wormweekly
 
 import (
-	"sync"
 	"sync/atomic"
 	"time"
 )
@@ -10,15 +9,11 @@ import (
 // goroutine at a time.
 type Recorder struct {
 	run    *run
-	mutex  sync.Mutex
+	taken  atomic.Uint32 // C gives it back by this number
 	number int
 	name   string
 	list   []prepared
-	// whether a call of its own has it, and not its run or an instrument
-	isUsed atomic.Bool
-	// of each instrument, how many recordings count out what is under way, and what is still to be made
-	underWay []uint64
-	kept     []*kept
+	kept   []*kept // of each instrument, what is still to be made
 	// so that no two share lines of cache
 	_ [64]byte
 }
@@ -35,12 +30,7 @@ func (recorder *Recorder) Record(on *Instrument, value int64, attributes ...Attr
 		return err
 	}
 	answer := on.made(recorder, &recording{attributes: attributes, value: value})
-	if answer == answerDone {
-		recorder.end()
-		return nil
-	}
-	defer recorder.end()
-	return errorSaid(on, answer, recorder.number, attributes, value)
+	return errorSaid(on, answer, attributes, value)
 }
 
 // Add makes a recording with a bound set of attributes. Where it is refused, nothing is counted.
@@ -49,12 +39,7 @@ func (recorder *Recorder) Add(bound Bound, value int64) error {
 	if err := recorder.begin(on); err != nil {
 		return err
 	}
-	answer := on.made(recorder, &recording{set: bound.set, isSet: true, value: value})
-	recorder.end()
-	if answer == answerDone {
-		return nil
-	}
-	return errorOn(on, answer)
+	return errorOn(on, on.made(recorder, &recording{set: bound.set, isSet: true, value: value}))
 }
 
 // AddDuration records how long something took, in whole units, as time.Millisecond. What is above the range of the
@@ -102,11 +87,11 @@ func (recorder *Recorder) AddAll(items []Item) error {
 		}
 		recorder.list = append(recorder.list, prepared{item.Bound.set, item.Value})
 	}
-	answer, made := on.madeList(recorder, recorder.list)
+	list := recorder.list
+	answer, made := recordList(recorder.at(on), list)
 	if answer == answerDone && made < len(items) {
 		answer = answerUnknownInstrument
 	}
-	recorder.end()
 	if answer == answerDone {
 		return nil
 	}
@@ -122,7 +107,6 @@ func (recorder *Recorder) InFlight(bound Bound) (out func() error, err error) {
 	if err := recorder.begin(on); err != nil {
 		return nothing, err
 	}
-	defer recorder.end()
 	what := recording{set: bound.set, isSet: true, value: 1, isCountedIn: true}
 	if answer := on.made(recorder, &what); answer != answerDone {
 		return nothing, errorOn(on, answer)
@@ -131,7 +115,6 @@ func (recorder *Recorder) InFlight(bound Bound) (out func() error, err error) {
 		if err := recorder.begin(on); err != nil {
 			return err
 		}
-		defer recorder.end()
 		return errorOn(on, on.countOut(recorder, &what))
 	}, nil
 }
@@ -139,33 +122,21 @@ func (recorder *Recorder) InFlight(bound Bound) (out func() error, err error) {
 // Ask grants the recorder so many recordings beside its budget, of what is left of the spare budget. Any goroutine may
 // ask.
 func (recorder *Recorder) Ask(on *Instrument, amount uint64) error {
-	return recorder.between(on, func() uint32 {
-		return on.granted(ask(recorder.run.handles, on.number, recorder.number, amount))
-	})
-}
-
-// Budget is what it may record on an instrument. Any goroutine may ask.
-func (recorder *Recorder) Budget(on *Instrument) (left Budget, err error) {
-	err = recorder.between(on, func() (answer uint32) {
-		left, answer = budget(recorder.run.handles, on.number, recorder.number)
-		return answer
-	})
-	return left, err
-}
-
-// Calls between two recordings.
-func (recorder *Recorder) between(on *Instrument, call func() uint32) error {
 	if err := recorder.takes(on); err != nil {
 		return err
 	}
-	recorder.mutex.Lock()
-	defer recorder.mutex.Unlock()
-	on.mutex.Lock()
-	defer on.mutex.Unlock()
-	if answer := recorder.makes(on); answer != answerDone {
-		return errorOn(on, answer)
+	recorder.wait()
+	return errorOn(on, ask(recorder.at(on), amount))
+}
+
+// Budget is what it may record on an instrument. Any goroutine may ask.
+func (recorder *Recorder) Budget(on *Instrument) (Budget, error) {
+	if err := recorder.takes(on); err != nil {
+		return Budget{}, err
 	}
-	return errorOn(on, call())
+	recorder.wait()
+	left, answer := budget(recorder.at(on))
+	return left, errorOn(on, answer)
 }
 
 // Refuses an instrument of another run before its handles are looked at: a roll-over may be changing them.
@@ -185,17 +156,12 @@ func (recorder *Recorder) begin(on *Instrument) error {
 	if err := recorder.takes(on); err != nil {
 		return err
 	}
-	if !recorder.mutex.TryLock() {
-		if recorder.isUsed.Load() {
+	var wait wait
+	for !recorder.takeAs(isOwn) {
+		if recorder.taken.Load() == isOwn {
 			return ErrInUse
 		}
-		recorder.mutex.Lock()
+		wait.goesOn()
 	}
-	recorder.isUsed.Store(true)
 	return nil
-}
-
-func (recorder *Recorder) end() {
-	recorder.isUsed.Store(false)
-	recorder.mutex.Unlock()
 }

@@ -117,12 +117,11 @@ func errorOn(instrument *Instrument, answer uint32) error {
 	return fmt.Errorf("%w (instrument %q)", errorOf(answer), instrument.name)
 }
 
-// The same with what attributes and a value are refused for, where that is it.
-func errorSaid(instrument *Instrument, answer uint32, recorder int, attributes []Attr, value int64) error {
+// The same with what attributes and a value are refused for, where that is it. There has to be a recorder.
+func errorSaid(instrument *Instrument, answer uint32, attributes []Attr, value int64) error {
 	refusal, is := byAnswer[answer]
 	if is && (refusal.family == ErrAttributes || refusal == ErrRange) {
-		said := explain(instrument.run.handles, instrument.number, recorder, attributes, value)
-		if said != "" {
+		if said := explain(instrument, attributes, value); said != "" {
 			return fmt.Errorf("%w: %s", refusal, said)
 		}
 	}

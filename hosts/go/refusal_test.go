@@ -6,7 +6,6 @@ import (
 	"strconv"
 	"strings"
 	"testing"
-	"time"
 )
 
 func TestRecordingsAreRefusedByName(t *testing.T) {
@@ -270,12 +269,7 @@ func TestAGrantIsRecorded(t *testing.T) {
 func TestARecorderIsOneGoroutines(t *testing.T) {
 	metrics, first, _, requests := opened(t)
 	bound := must(requests.Bind(home...))(t)
-	requests.mutex.Lock() // so that the other one waits in its recording
-	recorded := make(chan error)
-	go func() { recorded <- first.Add(bound, 1) }()
-	for !first.isUsed.Load() {
-		time.Sleep(time.Millisecond)
-	}
+	first.takeAs(isOwn) // as another one does in its recording
 	calls := []func() error{
 		func() error { return first.Record(requests, 1, home...) },
 		func() error { return first.Add(bound, 1) },
@@ -286,10 +280,9 @@ func TestARecorderIsOneGoroutines(t *testing.T) {
 			t.Error(err)
 		}
 	}
-	requests.mutex.Unlock()
-	done(t, <-recorded)
+	first.giveBack()
 	done(t, first.Add(bound, 1))
-	if count := totalsOf(t, metrics)[0].Count; count != 2 {
+	if count := totalsOf(t, metrics)[0].Count; count != 1 {
 		t.Errorf("%d were counted", count)
 	}
 }

@@ -1,8 +1,10 @@
 package wormweekly
 
 import (
+	"runtime"
 	"sync"
 	"sync/atomic"
+	"time"
 )
 
 // A hint is where a processor begins to look for a recorder.
@@ -22,6 +24,81 @@ func (own *run) first() int {
 		at -= len(own.recorders)
 	}
 	return at
+}
+
+// A recorder is taken for one call, and given back by C before that returns: nobody waits for a goroutine that is to
+// be run again. By its run it is taken for longer, and by a call of its own so that another one is refused.
+const (
+	isFree = iota
+	isTaken
+	isOwn
+)
+
+func (recorder *Recorder) takeAs(state uint32) bool {
+	return recorder.taken.Load() == isFree && recorder.taken.CompareAndSwap(isFree, state)
+}
+
+func (recorder *Recorder) giveBack() { recorder.taken.Store(isFree) }
+
+// Takes it, as soon as nobody has it.
+func (recorder *Recorder) wait() {
+	var wait wait
+	for !recorder.takeAs(isTaken) {
+		wait.goesOn()
+	}
+}
+
+// A wait for a recorder. It is short, unless whoever has the recorder is interrupted.
+type wait struct{ began time.Time }
+
+const (
+	waitsAtWork = 50 * time.Microsecond
+	waitsAwake  = time.Millisecond
+)
+
+func (own *wait) goesOn() {
+	if own.began.IsZero() {
+		own.began = time.Now()
+	}
+	switch took := time.Since(own.began); {
+	case took > waitsAwake:
+		time.Sleep(waitsAtWork)
+	case took > waitsAtWork:
+		runtime.Gosched()
+	}
+}
+
+// Waits are those of recordings that found all recorders in use. Where they are many, declare more recorders.
+type Waits struct {
+	Count   uint64
+	Longest time.Duration
+}
+
+func (own *Waits) add(count uint64, longest time.Duration) {
+	own.Count += count
+	if longest > own.Longest {
+		own.Longest = longest
+	}
+}
+
+// The waits of recordings on all instruments of a run, as they are counted.
+type waiting struct {
+	mutex sync.Mutex
+	all   Waits
+}
+
+func (own *waiting) add(count uint64, longest time.Duration) {
+	own.mutex.Lock()
+	defer own.mutex.Unlock()
+	own.all.add(count, longest)
+}
+
+// Those that are counted in C, of what was recorded with these handles.
+func (own *waiting) addOf(of *handles, instruments int) {
+	for number := 0; number < instruments; number++ {
+		count, longest := waitsOn(of, number)
+		own.add(count, time.Duration(longest))
+	}
 }
 
 // A recording that any recorder may make: of attributes, or of a set that was looked up. What is counted in gets the
@@ -52,71 +129,31 @@ func (instrument *Instrument) areSpent() bool {
 	return true
 }
 
-// Where something was granted, each recorder may have budget left. The instrument is held.
-func (instrument *Instrument) granted(answer uint32) uint32 {
-	if answer == answerDone {
-		instrument.spent.Store(0)
-	}
-	return answer
-}
-
-// Makes a recording by a recorder that is held.
+// Makes a recording by a recorder that is taken.
 func (instrument *Instrument) made(recorder *Recorder, what *recording) uint32 {
-	instrument.mutex.Lock()
-	defer instrument.mutex.Unlock()
-	return instrument.madeHeld(recorder, what)
-}
-
-// The same while the instrument is held, too.
-func (instrument *Instrument) madeHeld(recorder *Recorder, what *recording) uint32 {
-	if answer := recorder.makes(instrument); answer != answerDone {
-		return answer
-	}
-	if what.isCountedIn && !instrument.hasRoom(recorder) {
-		return answerBudget
-	}
-	answer := instrument.recorded(recorder, what)
+	run := instrument.run.number
 	switch {
-	case answer == answerBudget:
-		instrument.spent.Store(instrument.spent.Load() | bit(recorder.number))
-	case answer == answerDone && what.isCountedIn:
-		recorder.underWay[instrument.number]++
-		what.recorder, what.run = recorder.number, instrument.run.number
+	case what.isCountedIn:
+		answer := countIn(recorder.at(instrument), what.set)
+		if answer == answerDone {
+			what.recorder, what.run = recorder.number, run
+		}
+		return answer
+	case what.isSet:
+		return recordSet(recorder.at(instrument), what.set, what.value)
+	default:
+		made := recorder.give(what.attributes)
+		return record(recorder.at(instrument), made, what.value)
 	}
-	return answer
 }
 
-// Makes the recordings of a list by a recorder that is held.
-func (instrument *Instrument) madeList(recorder *Recorder, list []prepared) (answer uint32, made int) {
-	instrument.mutex.Lock()
-	defer instrument.mutex.Unlock()
-	if answer := recorder.makes(instrument); answer != answerDone {
-		return answer, 0
-	}
-	return recordList(instrument.run.handles, instrument.number, recorder.number, list)
-}
-
-func (instrument *Instrument) recorded(recorder *Recorder, what *recording) uint32 {
-	own := instrument.run.handles
-	if what.isSet {
-		return recordSet(own, instrument.number, recorder.number, what.set, what.value)
-	}
-	return record(own, instrument.number, recorder.number, what.attributes, what.value)
-}
-
-// Whether a recording is left to count out what is counted in now, beside those for what is under way.
-func (instrument *Instrument) hasRoom(recorder *Recorder) bool {
-	left, answer := budget(instrument.run.handles, instrument.number, recorder.number)
-	return answer == answerDone && left.Left >= recorder.underWay[instrument.number]+2
-}
-
-// Counts out what was counted in by a recorder, which is held. In another run there is nothing to count out.
+// Counts out what is counted in by a recorder, which is taken. In another run there is nothing to count out.
 func (instrument *Instrument) countOut(recorder *Recorder, what *recording) uint32 {
 	if what.run != instrument.run.number {
+		recorder.giveBack()
 		return answerDone
 	}
-	recorder.underWay[instrument.number]--
-	return instrument.made(recorder, &recording{set: what.set, isSet: true, value: -1})
+	return countOut(recorder.at(instrument), what.set)
 }
 
 // Takes any recorder, to ask it what all would answer. There has to be one.
@@ -124,11 +161,11 @@ func (own *run) take() *Recorder {
 	first := own.first()
 	for step := range own.recorders {
 		recorder := own.recorders[(first+step)%len(own.recorders)]
-		if recorder.mutex.TryLock() {
+		if recorder.takeAs(isTaken) {
 			return recorder
 		}
 	}
-	own.recorders[first].mutex.Lock()
+	own.recorders[first].wait()
 	return own.recorders[first]
 }
 
@@ -139,15 +176,12 @@ func (instrument *Instrument) share(what *recording, in *cell) uint32 {
 	if len(instrument.run.recorders) == 0 {
 		return answerUnknownRecorder
 	}
-	if answer, isDone := instrument.keep(what, in); isDone {
+	first := instrument.run.first()
+	if answer, isDone := instrument.keep(first, what, in); isDone {
 		return answer
 	}
-	first := instrument.run.first()
 	for {
-		answer := instrument.byRecorders(first, what, false)
-		if answer == answerBudget {
-			answer = instrument.byRecorders(first, what, true)
-		}
+		answer := instrument.byRecorders(first, what)
 		if answer == answerBudget {
 			answer = instrument.bySpare(first, what)
 		}
@@ -158,44 +192,55 @@ func (instrument *Instrument) share(what *recording, in *cell) uint32 {
 	}
 }
 
-// By the recorders that nobody uses, or, where it waits, by each. Those that are known to be spent are left out.
-func (instrument *Instrument) byRecorders(first int, what *recording, waits bool) uint32 {
+// Takes the recorders that nobody uses, but for those that are known to be spent, until a call with one is done. Those
+// that are in use are tried again.
+func (instrument *Instrument) byAny(first int, call func(*Recorder) bool) {
+	var wait wait
+	for !instrument.isTried(first, call) {
+		wait.goesOn()
+	}
+	if !wait.began.IsZero() {
+		instrument.run.waiting.add(1, time.Since(wait.began))
+	}
+}
+
+// The same once. False where the call is not done, and a recorder was not tried.
+func (instrument *Instrument) isTried(first int, call func(*Recorder) bool) bool {
 	recorders := instrument.run.recorders
+	isBusy := false
 	for step := range recorders {
 		recorder := recorders[(first+step)%len(recorders)]
-		if instrument.isSpent(recorder.number) || !recorder.taken(waits) {
+		if instrument.isSpent(recorder.number) {
 			continue
 		}
-		answer := instrument.made(recorder, what)
-		recorder.mutex.Unlock()
-		if answer != answerBudget {
-			return answer
+		if !recorder.takeAs(isTaken) {
+			isBusy = true
+		} else if call(recorder) {
+			return true
 		}
 	}
-	return answerBudget
+	return !isBusy
 }
 
-func (recorder *Recorder) taken(waits bool) bool {
-	if recorder.mutex.TryLock() {
-		return true
-	}
-	if waits {
-		recorder.mutex.Lock()
-	}
-	return waits
+func (instrument *Instrument) byRecorders(first int, what *recording) uint32 {
+	answer := uint32(answerBudget)
+	instrument.byAny(first, func(recorder *Recorder) bool {
+		answer = instrument.made(recorder, what)
+		return answer != answerBudget
+	})
+	return answer
 }
 
-// By the first recorder, which asks the spare budget. What wants more than one recording may ask more than once.
+// By the first recorder, which asks the spare budget. What wants more than one recording may ask more than once, and
+// so does what comes after another recording by the same recorder.
 func (instrument *Instrument) bySpare(first int, what *recording) uint32 {
 	recorder := instrument.run.recorders[first]
-	recorder.mutex.Lock()
-	defer recorder.mutex.Unlock()
-	instrument.mutex.Lock()
-	defer instrument.mutex.Unlock()
 	for {
-		switch answer := instrument.askPart(recorder); answer {
+		recorder.wait()
+		switch answer := askPart(recorder.at(instrument), len(instrument.run.recorders)); answer {
 		case answerDone:
-			if answer := instrument.madeHeld(recorder, what); answer != answerBudget {
+			recorder.wait()
+			if answer := instrument.made(recorder, what); answer != answerBudget {
 				return answer
 			}
 		case answerNoSpare:
@@ -204,21 +249,4 @@ func (instrument *Instrument) bySpare(first int, what *recording) uint32 {
 			return answer
 		}
 	}
-}
-
-// Asks for a part of what is spare, so that something is left for the other recorders.
-func (instrument *Instrument) askPart(recorder *Recorder) uint32 {
-	own := instrument.run
-	left, answer := spare(own.handles, instrument.number)
-	if answer != answerDone {
-		return answer
-	}
-	if left.Left == 0 {
-		return answerNoSpare
-	}
-	part := left.Left / uint64(2*len(own.recorders))
-	if part == 0 {
-		part = 1
-	}
-	return instrument.granted(ask(own.handles, instrument.number, recorder.number, part))
 }

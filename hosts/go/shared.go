@@ -58,14 +58,12 @@ func (instrument *Instrument) count(refusal *Refusal, said func() error) {
 	}
 }
 
-// The error of an answer, with what it is about. No recorder is held.
+// The error of an answer, with what it is about.
 func (instrument *Instrument) said(answer uint32, what *recording) error {
 	if what.isSet || len(instrument.run.recorders) == 0 {
 		return errorOn(instrument, answer)
 	}
-	recorder := instrument.run.take()
-	defer recorder.mutex.Unlock()
-	return errorSaid(instrument, answer, recorder.number, what.attributes, what.value)
+	return errorSaid(instrument, answer, what.attributes, what.value)
 }
 
 // Add adds to a counter or an up-down counter.
@@ -185,9 +183,8 @@ func (bound Bound) InFlight() (out func()) {
 // By the recorder that counted it in, and by another one where something else took what was kept.
 func (instrument *Instrument) countOutShared(what *recording) {
 	recorder := instrument.run.recorders[what.recorder]
-	recorder.mutex.Lock()
+	recorder.wait()
 	answer := instrument.countOut(recorder, what)
-	recorder.mutex.Unlock()
 	out := recording{set: what.set, isSet: true, value: -1}
 	if answer == answerBudget {
 		answer = instrument.share(&out, nil)

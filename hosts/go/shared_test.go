@@ -342,3 +342,26 @@ func TestARecordingTakesNoMemoryOfGo(t *testing.T) {
 		}
 	}
 }
+
+func TestWaitsAreCounted(t *testing.T) {
+	metrics, _, _, requests := opened(t)
+	bound := must(requests.Bind(home...))(t)
+	bound.Add(1)
+	requests.Add(1, home...)
+	equal(t, metrics.Waits(), Waits{})
+	metrics.run.stop()
+	var working sync.WaitGroup
+	working.Add(1)
+	go func() {
+		defer working.Done()
+		requests.Add(1, home...)
+	}()
+	time.Sleep(20 * time.Millisecond)
+	metrics.run.goOn()
+	working.Wait()
+	must(metrics.RollOver(at(1)))(t)
+	waits := metrics.Waits()
+	if waits.Count != 1 || waits.Longest < 10*time.Millisecond || waits.Longest > time.Second {
+		t.Error(waits)
+	}
+}

@@ -1,6 +1,8 @@
 // A thousand goroutines record at once over eight recorders. It fails where a total is another, or where in each of five
-// rounds five in a hundred more wait for a millisecond than at a mutex around a map: on a machine that has other work,
-// whoever holds a lock is interrupted.
+// rounds a recording waited for a recorder or an instrument for longer than a millisecond. A round counts where what
+// waits for nothing was never interrupted for as long.
+//
+// What a call takes beside is the scheduler's: a goroutine that comes back from C is run again when its turn comes.
 package main
 
 import (
@@ -11,6 +13,7 @@ import (
 	"time"
 
 	"wormweekly.example/wormweekly"
+	"wormweekly.example/wormweekly/internal/cross"
 )
 
 const (
@@ -18,6 +21,7 @@ const (
 	recordings = 200 // of each, half of them with attributes at the call
 	recorders  = 8
 	rounds     = 5
+	mostRounds = 20
 )
 
 const catalogue = `format = 1
@@ -74,8 +78,8 @@ func longestOf(mutex *sync.Mutex, longest *time.Duration) time.Duration {
 	return *longest
 }
 
-// The waits of recordings, half of them with attributes at the call.
-func recorded() (longest time.Duration, long int) {
+// Recordings, half of them with attributes at the call.
+func recorded() (longest time.Duration, long int, waited wormweekly.Waits) {
 	metrics, err := open()
 	if err != nil {
 		log.Fatal(err)
@@ -96,10 +100,11 @@ func recorded() (longest time.Duration, long int) {
 	if err != nil || totals[0].Count != goroutines*recordings {
 		log.Fatal(err, totals)
 	}
-	return longest, long
+	return longest, long, metrics.Waits()
 }
 
-// Those at a mutex around a map.
+func idle() (longest time.Duration, long int) { return waits(func(int) {}) }
+
 func mapped() (longest time.Duration, long int) {
 	var mutex sync.Mutex
 	counts := map[string]int{}
@@ -110,16 +115,49 @@ func mapped() (longest time.Duration, long int) {
 	})
 }
 
+// A call of C that does nothing, as often as a recording calls C.
+func crossed() (longest time.Duration, long int) {
+	return waits(func(at int) {
+		if at%2 == 0 {
+			cross.Nothing()
+		}
+	})
+}
+
+type floor struct {
+	name string
+	run  func() (longest time.Duration, long int)
+}
+
+var floors = []floor{{"calls of C that do nothing", crossed}, {"nothing", idle}, {"a mutex around a map", mapped}}
+
+// Whether a recording waited for longer than a millisecond, and whether the machine has no other work.
+func tried() (isLong, isQuiet bool) {
+	longest, long, waited := recorded()
+	fmt.Printf("%d recordings of %d goroutines over %d recorders: %d waited for one, the longest %v; calls above 1ms: %d, the longest %v\n",
+		goroutines*recordings, goroutines, recorders, waited.Count, waited.Longest, long, longest)
+	isQuiet = true
+	for at, floor := range floors {
+		longest, long := floor.run()
+		fmt.Printf("    %s: above 1ms: %d, the longest %v\n", floor.name, long, longest)
+		isQuiet = isQuiet && (at == len(floors)-1 || long == 0)
+	}
+	return waited.Longest > time.Millisecond, isQuiet
+}
+
 func main() {
-	const all = goroutines * recordings
-	for round := 0; round < rounds; round++ {
-		longest, long := recorded()
-		otherLongest, otherLong := mapped()
-		fmt.Printf("%d recordings of %d goroutines over %d recorders: longest %v, %d above 1ms; at a mutex: %v, %d\n",
-			all, goroutines, recorders, longest, long, otherLongest, otherLong)
-		if long <= otherLong+all/20 {
+	judged := 0
+	for round := 0; round < mostRounds && judged < rounds; round++ {
+		isLong, isQuiet := tried()
+		if !isLong {
 			return
 		}
+		if isQuiet {
+			judged++
+		}
 	}
-	log.Fatal("recordings wait for longer than at a mutex around a map")
+	if judged == rounds {
+		log.Fatal("recordings wait for longer than a millisecond")
+	}
+	fmt.Println("not judged: the machine has other work")
 }
