@@ -2,17 +2,19 @@
 #include "library.h"
 
 #include <stdlib.h>
+#include <string.h>
 #include <time.h>
 
-/* A block under way: when it began, or where it is counted in, if it is. */
+/* A block under way: which thread entered it, and when, or where it is counted in, if it is. */
 typedef struct {
+    unsigned long thread;
     int64_t began;
     int is_counted;
     Place place;
 } Block;
 
-/* What blocks are entered for, one in another or by several threads: it makes no difference which one is left first.
-   Where the attributes were refused, nothing is recorded. */
+/* What blocks are entered for, one in another or by several threads. A thread leaves its own last one; where it entered
+   none, that of another. Where the attributes were refused, nothing is recorded. */
 typedef struct {
     PyObject_HEAD
     Run *run;
@@ -109,7 +111,7 @@ PyObject *count_bound(Bound *self, PyObject *unused) {
     return new_scope(self->run->state->in_flight, self->run, self->instrument, &self->prepared, 1);
 }
 
-static int push(Scope *self, const Block *block) {
+static int push(Scope *self, Block block) {
     if (self->count == self->room) {
         size_t room = 2 * self->room + 1;
         Block *blocks = realloc(self->blocks, room * sizeof *blocks);
@@ -120,16 +122,25 @@ static int push(Scope *self, const Block *block) {
         self->blocks = blocks;
         self->room = room;
     }
-    self->blocks[self->count++] = *block;
+    block.thread = PyThread_get_thread_ident();
+    self->blocks[self->count++] = block;
     return 1;
 }
 
 static int pop(Scope *self, Block *block) {
-    if (self->count == 0) {
+    unsigned long thread = PyThread_get_thread_ident();
+    size_t at = self->count;
+    if (at == 0) {
         PyErr_SetString(PyExc_RuntimeError, "the block was not entered");
         return 0;
     }
-    *block = self->blocks[--self->count];
+    while (at > 0 && self->blocks[at - 1].thread != thread) {
+        at--;
+    }
+    at = at > 0 ? at - 1 : self->count - 1;
+    *block = self->blocks[at];
+    self->count--;
+    memmove(&self->blocks[at], &self->blocks[at + 1], (self->count - at) * sizeof *self->blocks);
     return 1;
 }
 
@@ -154,7 +165,7 @@ static int64_t nanoseconds(void) {
 static PyObject *timer_enter(Scope *self, PyObject *unused) {
     const Block block = { .began = nanoseconds() };
     (void)unused;
-    return push(self, &block) ? Py_NewRef((PyObject *)self) : NULL;
+    return push(self, block) ? Py_NewRef((PyObject *)self) : NULL;
 }
 
 static PyObject *timer_exit(Scope *self, PyObject *const *args, Py_ssize_t count) {
@@ -201,7 +212,7 @@ static PyObject *in_flight_enter(Scope *self, PyObject *unused) {
         }
         Py_DECREF(made);
     }
-    if (push(self, &block)) {
+    if (push(self, block)) {
         return Py_NewRef((PyObject *)self);
     }
     if (block.is_counted) {

@@ -3,6 +3,8 @@
 import logging
 import time
 import unittest
+from concurrent.futures import ThreadPoolExecutor
+from threading import Barrier
 from typing import Any
 
 from tests.plans import HOME, opened
@@ -68,6 +70,34 @@ class Scopes(unittest.TestCase):
         for block in (self.duration.time({"route": "/"}), self.in_flight.in_flight()):
             with self.assertRaises(RuntimeError):
                 block.__exit__(None, None, None)
+
+    def test_threads_leave_their_own_blocks_of_one_timer(self) -> None:
+        # Whoever enters last leaves last, so that the last block to be entered is not the next one to be left.
+        timer, both = self.duration.bind({"route": "/"}).time(), Barrier(2)
+
+        def work(first: bool) -> None:
+            if not first:
+                both.wait()
+            with timer:
+                if first:
+                    time.sleep(0.1)
+                    both.wait()
+                    time.sleep(0.05)
+                else:
+                    time.sleep(0.3)
+
+        with ThreadPoolExecutor(2) as threads:
+            list(threads.map(work, (True, False)))
+        value = self.reader.collect(self.duration).streams[0].points[0].value
+        assert isinstance(value, Buckets)
+        self.assertTrue(150 <= value.least and 300 <= value.greatest < 400, value)
+
+    def test_another_thread_leaves_a_block(self) -> None:
+        timer = self.duration.bind({"route": "/"}).time()
+        timer.__enter__()
+        with ThreadPoolExecutor(1) as other:
+            other.submit(timer.__exit__, None, None, None).result()
+        self.assertEqual(self.metrics.settle()[2].count, 1)
 
     def test_many_blocks_of_one_scope(self) -> None:
         block = self.in_flight.in_flight()

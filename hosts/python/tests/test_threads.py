@@ -1,5 +1,6 @@
 """Threads."""
 
+import asyncio
 import sys
 import threading
 import unittest
@@ -59,11 +60,36 @@ class Threads(unittest.TestCase):
             with pool.lend() as recorder:
                 recorder.record(self.requests, HOME, 1)
 
+        def lend_another() -> None:
+            with pool.lend(), self.assertRaises(TimeoutError):
+                elsewhere(work)
+
         work()
         elsewhere(work)
-        with pool.lend(), pool.lend(), self.assertRaises(TimeoutError):
-            elsewhere(work)
-        self.assertEqual(self.metrics.settle()[0].count, 2)
+        with pool.lend():
+            elsewhere(lend_another)
+            work()
+        elsewhere(lambda: elsewhere(work))
+        self.assertEqual(self.metrics.settle()[0].count, 4)
+
+    def test_a_thread_is_lent_what_it_has(self) -> None:
+        pool = Pool([self.second])
+
+        async def work() -> None:
+            with pool.lend() as first:
+                await asyncio.sleep(0)
+                with pool.lend() as second:
+                    self.assertIs(first, second)
+                    second.record(self.requests, HOME, 1)
+
+        async def work_all() -> None:
+            await asyncio.gather(*(work() for _ in range(100)))
+
+        asyncio.run(work_all())
+        with pool.lend(), self.assertRaises(ZeroDivisionError), pool.lend():
+            _ = 1 // 0
+        elsewhere(lambda: asyncio.run(work_all()))
+        self.assertEqual(self.metrics.settle()[0].count, 200)
 
     def test_a_pool_lends_in_turn(self) -> None:
         pool, lent = Pool(self.metrics.recorders), []
