@@ -1,0 +1,135 @@
+"""Ten thousand tasks of asyncio record at once over eight recorders, and then 64 threads.
+
+It fails where a total is another, or where in each of five rounds a recording of a task took longer than a millisecond:
+nothing else runs in its thread meanwhile, so that a wait for a recorder would be in it. A round counts where what does
+nothing was never interrupted for as long. What a recording of a thread takes is also what other threads of Python take.
+"""
+
+import asyncio
+import gc
+import sys
+import threading
+from collections import Counter
+from collections.abc import Callable
+from time import perf_counter_ns
+
+from wormweekly import Metrics
+
+TASKS, THREADS, RECORDERS, ROUNDS, MOST_ROUNDS = 10_000, 64, 8, 5, 20
+EACH = 20  # recordings of a task, half of them with attributes at the call
+RECORDINGS = TASKS * EACH
+LONG = 1_000_000  # nanoseconds
+
+CATALOGUE = """format = 1
+[[meter]]
+name = 'crowd'
+[[meter.instrument]]
+name = 'took'
+kind = 'histogram'
+range = [0, 100]
+boundaries = [10]
+key = [{ name = 'route', values = ['/', '/cart'] }]
+""" + "".join(
+    f"[[recorder]]\nname = '{number}'\nbudget = [{{ instrument = 0, amount = {RECORDINGS} }}]\n"
+    for number in range(RECORDERS)
+)
+
+Work = Callable[[int], None]
+
+
+def timed(work: Work, at: int, waits: list[int]) -> None:
+    began = perf_counter_ns()
+    work(at)
+    waits.append(perf_counter_ns() - began)
+
+
+def by_tasks(work: Work) -> list[int]:
+    waits: list[int] = []
+
+    async def task() -> None:
+        for at in range(EACH):
+            timed(work, at, waits)
+            await asyncio.sleep(0)
+
+    async def all_tasks() -> None:
+        await asyncio.gather(*(task() for _ in range(TASKS)))
+
+    asyncio.run(all_tasks())
+    return waits
+
+
+def by_threads(work: Work) -> list[int]:
+    waits: list[list[int]] = [[] for _ in range(THREADS)]
+
+    def thread(own: list[int]) -> None:
+        for at in range(RECORDINGS // THREADS):
+            timed(work, at, own)
+
+    threads = [threading.Thread(target=thread, args=(own,)) for own in waits]
+    for one in threads:
+        one.start()
+    for one in threads:
+        one.join()
+    return sum(waits, [])
+
+
+def recorded(run: Callable[[Work], list[int]]) -> list[int]:
+    """How long recordings took."""
+    metrics = Metrics.open(CATALOGUE, "format = 1\n[[reader]]\nname = 'all'\n")
+    took = metrics.instruments[0]
+    bound = took.bind({"route": "/"})
+
+    def work(at: int) -> None:
+        if at % 2:
+            bound.record(1)
+        else:
+            took.record(1, {"route": "/"})
+
+    waits = run(work)
+    if metrics.settle()[0].count != len(waits):
+        sys.exit(f"{metrics.settle()[0]}, and not {len(waits)}")
+    return waits
+
+
+def locked(run: Callable[[Work], list[int]]) -> list[int]:
+    """How long it takes to count in a dictionary, behind a lock."""
+    lock, counts = threading.Lock(), Counter[str]()
+
+    def work(_: int) -> None:
+        with lock:
+            counts["/"] += 1
+
+    return run(work)
+
+
+def told(waits: list[int]) -> str:
+    return f"above 1 ms: {sum(one > LONG for one in waits)}, the longest {max(waits) / 1e6:.3f} ms"
+
+
+def is_long_of_tasks() -> tuple[bool, bool]:
+    """Whether a recording took longer than a millisecond, and whether the machine has no other work."""
+    waits, nothing = recorded(by_tasks), by_tasks(lambda _: None)
+    print(f"{len(waits)} recordings of {TASKS} tasks over {RECORDERS} recorders: {told(waits)}")
+    print(f"    nothing: {told(nothing)}")
+    print(f"    a lock around a dictionary: {told(locked(by_tasks))}")
+    return max(waits) > LONG, max(nothing) <= LONG
+
+
+def main() -> None:
+    gc.disable()  # which takes longer than a millisecond where there are so many tasks
+    waits = recorded(by_threads)
+    print(f"{len(waits)} recordings of {THREADS} threads over {RECORDERS} recorders: {told(waits)}")
+    print(f"    a lock around a dictionary: {told(locked(by_threads))}")
+    judged = 0
+    for _ in range(MOST_ROUNDS):
+        is_long, is_quiet = is_long_of_tasks()
+        if not is_long:
+            return
+        judged += is_quiet
+        if judged == ROUNDS:
+            sys.exit("recordings take longer than a millisecond")
+    print("not judged: the machine has other work")
+
+
+if __name__ == "__main__":
+    main()
