@@ -1,8 +1,8 @@
 """Ten thousand tasks of asyncio record at once over eight recorders, and then 64 threads.
 
-It fails where a total is another, or where in each of five rounds a recording of a task took longer than a millisecond:
-nothing else runs in its thread meanwhile, so that a wait for a recorder would be in it. A round counts where what does
-nothing was never interrupted for as long. What a recording of a thread takes is also what other threads of Python take.
+It fails where a total is another, or where in each of five rounds a recording of a task took longer than a millisecond,
+though what does nothing was never interrupted for as long: nothing else runs in its thread meanwhile, so that a wait for
+a recorder would be in it. What a recording of a thread takes is also what other threads of Python take.
 """
 
 import asyncio
@@ -15,7 +15,7 @@ from time import perf_counter_ns
 
 from wormweekly import Metrics
 
-TASKS, THREADS, RECORDERS, ROUNDS, MOST_ROUNDS = 10_000, 64, 8, 5, 20
+TASKS, THREADS, RECORDERS, ROUNDS = 10_000, 64, 8, 5
 EACH = 20  # recordings of a task, half of them with attributes at the call
 RECORDINGS = TASKS * EACH
 LONG = 1_000_000  # nanoseconds
@@ -120,14 +120,14 @@ def main() -> None:
     waits = recorded(by_threads)
     print(f"{len(waits)} recordings of {THREADS} threads over {RECORDERS} recorders: {told(waits)}")
     print(f"    a lock around a dictionary: {told(locked(by_threads))}")
-    judged = 0
-    for _ in range(MOST_ROUNDS):
+    quiet = 0
+    for _ in range(ROUNDS):
         is_long, is_quiet = is_long_of_tasks()
         if not is_long:
             return
-        judged += is_quiet
-        if judged == ROUNDS:
-            sys.exit("recordings take longer than a millisecond")
+        quiet += is_quiet
+    if quiet == ROUNDS:
+        sys.exit("recordings take longer than a millisecond")
     print("not judged: the machine has other work")
 
 

@@ -1,6 +1,6 @@
 // A thousand goroutines record at once over eight recorders. It fails where a total is another, or where in each of five
-// rounds a recording waited for a recorder or an instrument for longer than a millisecond. A round counts where what
-// waits for nothing was never interrupted for as long.
+// rounds a recording waited for a recorder or an instrument for longer than a millisecond, though what waits for nothing
+// was never interrupted for as long.
 //
 // What a call takes beside is the scheduler's: a goroutine that comes back from C is run again when its turn comes.
 package main
@@ -21,7 +21,6 @@ const (
 	recordings = 200 // of each, half of them with attributes at the call
 	recorders  = 8
 	rounds     = 5
-	mostRounds = 20
 )
 
 const catalogue = `format = 1
@@ -146,17 +145,17 @@ func tried() (isLong, isQuiet bool) {
 }
 
 func main() {
-	judged := 0
-	for round := 0; round < mostRounds && judged < rounds; round++ {
+	quiet := 0
+	for round := 0; round < rounds; round++ {
 		isLong, isQuiet := tried()
 		if !isLong {
 			return
 		}
 		if isQuiet {
-			judged++
+			quiet++
 		}
 	}
-	if judged == rounds {
+	if quiet == rounds {
 		log.Fatal("recordings wait for longer than a millisecond")
 	}
 	fmt.Println("not judged: the machine has other work")
