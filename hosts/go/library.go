@@ -1,6 +1,6 @@
 package wormweekly
 
-// The calls of libwormweekly: every handle, and each length that C is told, is in this file.
+// The calls of libwormweekly, those under locks by shards.c: every handle, and each length that C is told, is here.
 
 /*
 #cgo CFLAGS: -I${SRCDIR}/include -I${SRCDIR}/../include -I${SRCDIR}/../c

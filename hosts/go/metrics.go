@@ -188,12 +188,14 @@ func (instrument *Instrument) partLeft() (float64, error) {
 	return left / most, err
 }
 
-// Waits answers how often recordings found all recorders in use, since the plan was opened, and the longest time that
-// one waited for a recorder or an instrument.
+// Waits answers how often recordings found all recorders in use, or the instrument, since the plan was opened, and how
+// long one waited at most.
 func (metrics *Metrics) Waits() Waits {
 	own := metrics.run
-	own.stop()
-	defer own.goOn()
+	for _, instrument := range own.instruments {
+		instrument.mutex.Lock()
+		defer instrument.mutex.Unlock()
+	}
 	var counted waiting
 	counted.addOf(own.handles, len(own.instruments))
 	own.waiting.mutex.Lock()

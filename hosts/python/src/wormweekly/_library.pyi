@@ -61,7 +61,7 @@ class Instrument:
     def time(self, attributes: _Attributes | None = None, unit: int = ...) -> Timer:
         """A `with` that records how long its block took, in units of so many nanoseconds: milliseconds, if nothing else
         is said. What is above the range is recorded as its greatest value, and `clamped` counts it. The attributes are
-        looked up before the block."""
+        looked up before the block. Threads may share one; of tasks in one thread, each takes its own."""
     def in_flight(self, attributes: _Attributes | None = None) -> InFlight:
         """A `with` that counts its block in and out, on an up-down counter. What could not be counted out is not
         counted in: where fewer than two recordings are left for it, beside those that count out what is under way, it
