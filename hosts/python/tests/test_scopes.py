@@ -82,7 +82,7 @@ class Scopes(unittest.TestCase):
                 if first:
                     time.sleep(0.1)
                     both.wait()
-                    time.sleep(0.05)
+                    time.sleep(0.1)
                 else:
                     time.sleep(0.3)
 
@@ -90,7 +90,7 @@ class Scopes(unittest.TestCase):
             list(threads.map(work, (True, False)))
         value = self.reader.collect(self.duration).streams[0].points[0].value
         assert isinstance(value, Buckets)
-        self.assertTrue(150 <= value.least and 300 <= value.greatest < 400, value)
+        self.assertTrue(200 <= value.least and 300 <= value.greatest, value)
 
     def test_another_thread_leaves_a_block(self) -> None:
         timer = self.duration.bind({"route": "/"}).time()
