@@ -101,6 +101,19 @@ instrument = 0
 amount = 2
 ";
 
+// A gauge, of which two recorders set the level.
+const LEVEL: &str = "format = 1
+[[meter]]
+name = 'm'
+instrument = [{ name = 'level', kind = 'gauge', range = [0, 9] }]
+[[recorder]]
+name = 'r'
+budget = [{ instrument = 0, amount = 2 }]
+[[recorder]]
+name = 's'
+budget = [{ instrument = 0, amount = 1 }]
+";
+
 const SAMPLES: &[Sample] = &[
     Sample {
         catalogue: ROUTES,
@@ -120,6 +133,25 @@ accepted
 accepted
 0 0, 0 to 3, 0 to 10: stream 0 [1 0] 1 [2 0] 7
 0 0, 0 to 3, 0 to 20: stream 0 [1 0] 1 [2 0] 7
+",
+    },
+    // The later of two last values is known in one lane alone.
+    Sample {
+        catalogue: LEVEL,
+        config: MAIN,
+        script: "%% catalogue
+%% config
+%% script
+start 0
+record 0 0 5
+record 1 0 7
+record 0 0 3
+collect 0 0 10
+",
+        answers: "accepted
+accepted
+accepted
+0 0, 0 to 3, 0 to 10: stream 0 [0 0] 3
 ",
     },
     Sample {

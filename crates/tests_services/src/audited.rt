@@ -4,7 +4,7 @@ use crate::agreement::script_of;
 use crate::asserted::OrFail;
 use crate::page::Page;
 use crate::samples::{BOTH, PAIR};
-use crate::seats::{BookSeats, Seats, seats_of};
+use crate::seats::{BookSeats, Seats, seats_in_lanes, seats_of};
 use metric_audit::{Audited, audit};
 use metric_base::Items;
 use metric_history::{Batch, Entry, Event, Reply, Slip};
@@ -133,11 +133,12 @@ fn totals_of<R: Abort + Wait>(rt: &R, alloc: Global, seats: BookSeats<Audited>) 
     }
 }
 
-// Writes the audit of the instrument of this number after its script.
+// Writes the audit of the instrument of this number after its script. Lanes are allowed, and there are none: of entries
+// in several no order is known.
 fn tell_run<R: Abort + Wait>(page: &mut Page<'_, R>, instrument: u32, script: &str) {
     let (rt, alloc) = (page.rt, page.alloc);
     let script = script_of(rt, alloc, script);
-    let mut seats: BookSeats<Audited> = seats_of(rt, alloc, PAIR, BOTH, 0, 1);
+    let mut seats: BookSeats<Audited> = seats_in_lanes(rt, alloc, PAIR, BOTH, 0, (1, 2));
     let batches = batches_of(rt, alloc, &mut seats, script.events.as_slice());
     let totals = totals_of(rt, alloc, seats);
     let plan = certified_plan(alloc, PAIR, BOTH).or_fail(rt);

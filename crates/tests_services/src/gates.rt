@@ -16,8 +16,25 @@ use std::thread::{Threads, join};
 // How often a thread looks at most at what is to come.
 const TURNS: u32 = 1_000_000;
 
-// How often at what is not: each look hands the processor on, and on a busy machine takes long.
+// How often at what is not: each look hands the processor on, and on a busy machine takes long. At each recording of a
+// list it is a quarter of that.
 const HELD_TURNS: u32 = 400;
+
+// Two counters. The second recorder has no budget on the first one, and could record there by its spare alone.
+const SHARED: &str = "format = 2
+[[meter]]
+name = 'm'
+instrument = [
+    { name = 'A', kind = 'counter', range = [0, 3], spare = 1 },
+    { name = 'B', kind = 'counter', range = [0, 3] },
+]
+[[recorder]]
+name = 'r0'
+budget = [{ instrument = 0, amount = 10 }]
+[[recorder]]
+name = 'r1'
+budget = [{ instrument = 1, amount = 10 }]
+";
 
 // How many steps were made, whether the first instrument was entered, whether the second thread was answered, and
 // whether a step that was held saw another one or that answer; how many steps are held, and how often each looks.
@@ -32,17 +49,18 @@ struct Flags {
 }
 
 fn flags_for(case: &Case) -> Flags {
+    let is_list = matches!(case.step, Step::List);
     Flags {
         steps: AtomicU64::new(0),
         is_inside: AtomicBool::new(false),
         is_answered: AtomicBool::new(false),
         is_seen: AtomicBool::new(false),
-        held: if matches!(case.step, Step::List) {
-            2
-        } else {
-            1
+        held: if is_list { LIST.len() as u64 } else { 1 },
+        turns: match (case.is_seen, is_list) {
+            (true, _) => TURNS,
+            (false, true) => HELD_TURNS / 4,
+            (false, false) => HELD_TURNS,
         },
-        turns: if case.is_seen { TURNS } else { HELD_TURNS },
     }
 }
 
@@ -87,7 +105,7 @@ impl Gate for Holding<'_> {
 
 type Held<'a> = Provider<Marked, Holding<'a>>;
 
-// A step on the first instrument: a recording, a list of two, a collection, its end, or a grant.
+// A step on the first instrument: a recording, a list, a collection, its end, or a grant.
 #[derive(Clone, Copy)]
 enum Step {
     Record,
@@ -102,6 +120,9 @@ const ONE: Measurement = Measurement {
     value: 1,
 };
 
+// So many that a thread which waits gets a lock that is let go between them.
+const LIST: [Measurement; 8] = [ONE; 8];
+
 // Makes a step on the first instrument.
 fn make_first<R: Wait>(
     rt: &R,
@@ -113,7 +134,7 @@ fn make_first<R: Wait>(
     let (mut seat, mut reader) = (seat, reader);
     match step {
         Step::Record => seat.record(rt, provider, 0, &[], 1),
-        Step::List => match seat.record_sets(rt, provider, 0, &[ONE, ONE]) {
+        Step::List => match seat.record_sets(rt, provider, 0, &LIST) {
             Ok(()) => Ok(()),
             Err(fault) => Err(fault.refusal),
         },
@@ -166,20 +187,50 @@ fn both_answers<R: Abort + Threads + Wait + Sync>(
     )
 }
 
-// What they are answered by a provider whose first instrument is held.
+type Seated<'a> = (Held<'a>, Vec<Recorder>, Vec<Collector>);
+
+// A provider in its first run, with its seats.
+fn seated<'a, R: Abort + Wait>(rt: &R, alloc: Global, lanes: u32, flags: &'a Flags) -> Seated<'a> {
+    let plan = certified_plan(alloc, SHARED, MAIN).or_fail(rt);
+    match start_with_lanes(rt, alloc, plan, 0, 0, Holding { flags }, lanes) {
+        Ok(seated) => seated,
+        Err((_, _, refused)) => Err(refused).or_fail(rt),
+    }
+}
+
+// The same in its third run, where an end in the first one was refused.
+fn rolled_over<'a, R: Abort + Wait>(rt: &R, alloc: Global, seated: Seated<'a>) -> Seated<'a> {
+    let (provider, mut recorders, mut readers) = seated;
+    let Err((mut provider, _, _)) = provider.finish(rt, alloc, Vec::new(alloc)) else {
+        panic!(rt; "finished without seats");
+    };
+    for run in 1..3 {
+        match provider.roll_over(rt, alloc, recorders, 0, run) {
+            Ok(next) => (provider, recorders, readers) = (
+                next.provider,
+                next.recorders,
+                next.collectors,
+            ),
+            Err(_) => panic!(rt; "not rolled over"),
+        }
+    }
+    (provider, recorders, readers)
+}
+
+// What they are answered by a provider whose first instrument is held, in its first run or in its third.
 fn answers<R: Abort + Threads + Wait + Sync>(
     rt: &R,
     alloc: Global,
     case: &Case,
+    is_later: bool,
     flags: &Flags,
 ) -> Answers {
-    let plan = certified_plan(alloc, PAIR, MAIN).or_fail(rt);
-    match start_with_lanes(rt, alloc, plan, 0, 0, Holding { flags }, case.lanes) {
-        Ok((provider, recorders, readers)) => {
-            both_answers(rt, alloc, &provider, (recorders, readers), case, flags)
-        }
-        Err((_, _, refused)) => Err(refused).or_fail(rt),
+    let mut seated = seated(rt, alloc, case.lanes, flags);
+    if is_later {
+        seated = rolled_over(rt, alloc, seated);
     }
+    let (provider, recorders, readers) = seated;
+    both_answers(rt, alloc, &provider, (recorders, readers), case, flags)
 }
 
 // How many lanes an instrument may have, of which each thread records in its own; the step of the first thread, the
@@ -205,21 +256,21 @@ const CASES: &[Case] = &[
         lanes: 1,
         step: Step::Record,
         instrument: 0,
-        answer: Ok(()),
+        answer: Err(Refusal::Budget),
         is_seen: false,
     },
     Case {
         lanes: 1,
         step: Step::List,
         instrument: 0,
-        answer: Ok(()),
+        answer: Err(Refusal::Budget),
         is_seen: false,
     },
     Case {
         lanes: 1,
         step: Step::Collect,
         instrument: 0,
-        answer: Ok(()),
+        answer: Err(Refusal::Budget),
         is_seen: false,
     },
     Case {
@@ -233,21 +284,21 @@ const CASES: &[Case] = &[
         lanes: 1,
         step: Step::Grant,
         instrument: 0,
-        answer: Ok(()),
+        answer: Err(Refusal::Budget),
         is_seen: false,
     },
     Case {
         lanes: 2,
         step: Step::Record,
         instrument: 0,
-        answer: Ok(()),
+        answer: Err(Refusal::Budget),
         is_seen: true,
     },
     Case {
         lanes: 2,
         step: Step::Collect,
         instrument: 0,
-        answer: Ok(()),
+        answer: Err(Refusal::Budget),
         is_seen: false,
     },
     Case {
@@ -261,22 +312,35 @@ const CASES: &[Case] = &[
         lanes: 2,
         step: Step::Grant,
         instrument: 0,
-        answer: Ok(()),
+        answer: Err(Refusal::Budget),
         is_seen: false,
     },
 ];
 
+// Asserts what a case has of a provider in its first run or in its third.
+fn assert_case<R: Abort + Threads + Wait + Sync>(
+    rt: &R,
+    alloc: Global,
+    case: &Case,
+    is_later: bool,
+) {
+    let flags = flags_for(case);
+    let answers = answers(rt, alloc, case, is_later, &flags);
+    let is_seen = flags.is_seen.load(Ordering::SeqCst);
+    assert_equal(
+        rt,
+        (answers, is_seen),
+        ((Ok(()), case.answer), case.is_seen),
+    );
+}
+
 #[test]
 fn a_held_instrument_keeps_its_own_steps(rt: HostRuntime) {
     for case in CASES {
-        let flags = flags_for(case);
-        let answers = answers(&rt, rt.alloc(), case, &flags);
-        let is_seen = flags.is_seen.load(Ordering::SeqCst);
-        assert_equal(
-            &rt,
-            (answers, is_seen),
-            ((Ok(()), case.answer), case.is_seen),
-        );
+        assert_case(&rt, rt.alloc(), case, false);
+        if case.is_seen {
+            assert_case(&rt, rt.alloc(), case, true);
+        }
     }
 }
 

@@ -437,7 +437,7 @@ fn a_provider_goes_on_after_the_seats_of_another(rt: HostRuntime) {
 const SIX: &str = "format = 2
 [[meter]]
 name = 'm'
-instrument = [{ name = 'A', kind = 'counter', range = [0, 9], spare = 10 }]
+instrument = [{ name = 'A', kind = 'counter', range = [0, 9], spare = 100_000 }]
 [[recorder]]
 name = 'a'
 budget = [{ instrument = 0, amount = 2 }]
@@ -500,10 +500,10 @@ granted
 (0, Ok(1))
 (1, Ok(1))
 (2, Ok(1))
-(3, Ok(5))
+(3, Ok(40001))
 (4, Ok(1))
-(5, Ok(4))
-Ok(3)
+(5, Ok(30001))
+Ok(30000)
 ";
 
 const BY_EACH_AGAIN: &str = "accepted
@@ -583,9 +583,9 @@ const LANED: &[(u32, &[Act], &str)] = &[
 // What happens before and after.
 const IN_LANES: &[Act] = &[
     Act::Script(EACH),
-    Act::Ask(3, 0, 4),
-    Act::Ask(5, 0, 3),
-    Act::Ask(0, 0, 4),
+    Act::Ask(3, 0, 40_000),
+    Act::Ask(5, 0, 30_000),
+    Act::Ask(0, 0, 40_000),
     Act::Left,
     Act::Given(0),
     Act::Given(1),

@@ -14,15 +14,15 @@ impl<R: Abort> Page<'_, R> {
         }
     }
 
-    // Writes the set key and the sum of a point; only sums of streams with at most two keys are recorded here.
+    // Writes the set key of a point and its sum or last value; no stream here has more than two keys.
     fn point(&mut self, point: &Point) {
         match (&point.set, &point.value) {
-            (Some(set), PointValue::Sum(sum)) => self.numbers(&[
+            (Some(set), PointValue::Sum(value) | PointValue::Last(value)) => self.numbers(&[
                 (" [", u64::from(set[0])),
                 (" ", u64::from(set[1])),
-                ("] ", sum.unsigned_abs()),
+                ("] ", value.unsigned_abs()),
             ]),
-            _ => self.push(" no sum of a series"),
+            _ => self.push(" no number of a series"),
         }
     }
 
