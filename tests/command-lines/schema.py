@@ -35,6 +35,10 @@ FAULTS = {
     "make catalogue.toml narrow.toml": 1,
     "check catalogue.toml config.toml nowhere.toml": 3,
     "check catalogue.toml config.toml format.toml": 1,
+    "replay catalogue.toml config.toml faulty.txt": 3,
+    "draw catalogue.toml misspelled.toml": 3,
+    "report misspelled.toml config.toml": 3,
+    "report catalogue.toml config.toml --for prometheus=nobody": 2,
 }
 IS = {
     "text": lambda value: isinstance(value, str),

@@ -95,12 +95,14 @@ replay_app = with_rule
     (with_rule
     (with_rule
     (with_rule
+    (with_rule
     (with_rule (with_rule (pair_app (codes "replay")) (file_rule (codes "third") true))
     (file_rule (codes "fourth") false))
     (flag_rule (codes "audit")))
     (text_rule (codes "as")))
     (texts_rule (codes "resource")))
-    (text_rule (codes "reader"))
+    (text_rule (codes "reader")))
+    (flag_rule (codes "json"))
 
 -- a command over two old files, and over these and two new ones
 abbrev pub old_app : App
@@ -132,7 +134,8 @@ old_rule id long = record (text_rule id) { long = Some long }
 abbrev pub changed_app : Text → App
 changed_app name =
     with_rule
-    (with_rule (with_rule (pair_app name) output_rule)
+    (with_rule
+    (with_rule (with_rule (pair_app name) output_rule) (flag_rule (codes "json")))
     (old_rule (codes "old_catalogue") (codes "old-catalogue")))
     (old_rule (codes "old_config") (codes "old-config"))
 

@@ -11,6 +11,6 @@ mod wormweekly;
 
 pub use kit::{Line, LineFault, command_of, lines_are_taken, others_are_refused};
 pub use wormweekly::{
-    Concerns, Files, Form, Misuse, Options, Request, RequestFault, Task, VERSION, is_standard,
-    key_and_value, request_of,
+    Concerns, Files, Form, Misuse, Options, Request, RequestFault, Task, VERSION, has_equals,
+    is_standard, key_and_value, request_of,
 };

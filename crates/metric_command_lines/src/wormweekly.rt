@@ -11,7 +11,7 @@ mod report_command;
 mod request;
 mod standard;
 
-pub use attributes::key_and_value;
+pub use attributes::{has_equals, key_and_value};
 pub use commands::VERSION;
 pub use fault::{Misuse, RequestFault};
 pub use reading::request_of;

@@ -1,5 +1,5 @@
 -- What each command answers, and with which fault it stops before it writes.
-use Rattle.std.specs.Prelude.{◌≡◌, ℕ, List, [], codes, if◌then◌else◌, map}
+use Rattle.std.specs.Prelude.{◌≡◌, ℕ, true, false, List, [], codes, if◌then◌else◌, map}
 use Rattle.std.specs.List.{AllZip, flat_map}
 use Rattle.metric_parts.specs.declared.parts.Parts.{Parts}
 use Rattle.metric_contents.specs.declared.contents.Contents.{Contents}
@@ -23,6 +23,10 @@ use Rattle.metric_kit_commands.specs.Claims.{IsCertifiedPlan, IsClaimFault}
 use Rattle.metric_kit_commands.specs.Declarations.{IsDeclared, IsDeclaredFault}
 use Rattle.wormweekly_commands.specs.Concerns.{names, unless_named}
 use Rattle.wormweekly_commands.specs.Exposures.{all_exposures}
+use Rattle.wormweekly_commands.specs.PageReaders.{names_unknown}
+use Rattle.wormweekly_commands.specs.declared.fault.ConsoleFault.{ConsoleFault}
+use Rattle.wormweekly_commands.specs.declared.fault.ConsoleFault.TheVariants.{Page}
+use Rattle.wormweekly_commands.specs.declared.fault.PageFault.TheVariants.{NoReader}
 use Rattle.wormweekly_commands.specs.declared.listing.Listing.{Listing}
 use Rattle.wormweekly_commands.specs.declared.rooms.Rooms.{Rooms}
 use Rattle.wormweekly_commands.specs.declared.notes.Notes.{Notes}
@@ -81,6 +85,18 @@ IsPlainAnswer Check parts answers.Accepted = IsAccepted parts
 IsPlainAnswer Show parts (answers.Streams listing) = IsListing parts listing
 IsPlainAnswer Headroom parts (answers.Rooms rooms) = AreRooms parts rooms
 IsPlainAnswer task parts answer = ⊥
+
+-- each reader that words for ways out name is one that is told of
+abbrev pub HasReaders : List (List ℕ) → Answer → Type 0
+HasReaders words (answers.Notes notes) =
+    names_unknown words notes.declared.config.readers ≡ false
+HasReaders words answer = Unit {0}
+
+-- some reader that they name is not, which the fault says
+abbrev pub IsUnknownReader : List (List ℕ) → Answer → ConsoleFault → Type 0
+IsUnknownReader words (answers.Notes notes) fault =
+    (names_unknown words notes.declared.config.readers ≡ true) × (fault ≡ Page NoReader)
+IsUnknownReader words answer fault = ⊥
 
 abbrev pub IsNoted : Request → Parts → Answer → Type 0
 IsNoted request parts (answers.Notes notes) = AreNotes request parts notes

@@ -1,18 +1,18 @@
 -- The reader whose page is asked for.
-use Rattle.std.specs.Prelude.{◌≡◌, ℕ, List, [], ◌∷◌, Option, Some, None, Result, Ok, Err, filter, length}
-use Rattle.std.specs.List.{position_from, range_with_len}
+use Rattle.std.specs.Prelude.{◌≡◌, ◌==◌, ◌&&◌, ℕ, Bool, true, not, List, [], ◌∷◌, Option, Some, None}
+use Rattle.std.specs.Prelude.{Result, Ok, Err, filter, length}
+use Rattle.std.specs.List.{after_first, list_any, position_from, range_with_len}
 use Rattle.std.specs.Str.{bytes_eq}
 use Rattle.metric_base.specs.Steps.{require_some}
+use Rattle.metric_command_lines.specs.Attributes.{has_equals}
 use Rattle.metric_contents.specs.declared.contents.Contents.{Contents}
 use Rattle.metric_exposure.specs.declared.outlet.Outlet.TheVariants.{Prometheus}
-use Rattle.metric_kit_commands.specs.Declarations.{IsDeclared, IsDeclaredFault}
+use Rattle.metric_kit_commands.specs.Declarations.{IsDeclared}
 use Rattle.metric_parts.specs.declared.parts.Parts.{Parts}
 use Rattle.metric_views.specs.declared.config.Reader.{Reader}
 use Rattle.metric_views.specs.declared.config.Setup.{Setup}
 use Rattle.metric_views.specs.declared.stream.Stream.{Stream}
 use Rattle.wormweekly_commands.specs.Exposures.{has_served}
-use Rattle.wormweekly_commands.specs.declared.fault.ConsoleFault.{ConsoleFault}
-use Rattle.wormweekly_commands.specs.declared.fault.ConsoleFault.TheVariants.{Kit, Page}
 use Rattle.wormweekly_commands.specs.declared.fault.PageFault.{PageFault}
 use Rattle.wormweekly_commands.specs.declared.fault.PageFault.TheVariants.{NoReader, NoneServed, SeveralReaders}
 
@@ -39,16 +39,23 @@ reader_asked (Some name) readers streams = reader_named name 0 readers
 reader_asked None readers streams =
     only_reader (filter (has_served Prometheus streams) (range_with_len 0 (length readers)))
 
--- There is no reader of some name, which this says.
-pub record LacksReader (parts : Parts) (fault : PageFault) : Type 0 where
+-- there is a reader of the name
+abbrev pub has_reader : List Reader → List ℕ → Bool
+has_reader readers name = list_any (λ (reader : Reader). bytes_eq reader.name name) readers
+
+-- a word for a way out names a reader behind `=` that is not there
+abbrev pub is_unknown : List Reader → List ℕ → Bool
+is_unknown readers word =
+    has_equals word && not (has_reader readers (after_first (λ b. b == 61) word))
+
+-- some word does
+abbrev pub names_unknown : List (List ℕ) → List Reader → Bool
+names_unknown words readers = list_any (is_unknown readers) words
+
+-- Some word names a reader that the parts do not declare, which the fault says.
+pub record LacksReader (words : List (List ℕ)) (parts : Parts) (fault : PageFault) : Type 0 where
   pub contents : Contents
   pub config : Setup
   pub declared : IsDeclared parts contents config
-  pub name : List ℕ
-  pub lacks : reader_named name 0 config.readers ≡ Err fault
-
--- The config has no reader that is named, or the fault is the first of the parts.
-abbrev pub IsReaderFault : Parts → ConsoleFault → Type 0
-IsReaderFault parts (Page fault) = LacksReader parts fault
-IsReaderFault parts (Kit fault) = IsDeclaredFault fault parts
-IsReaderFault parts _ = ⊥
+  pub lacks : names_unknown words config.readers ≡ true
+  pub says : fault ≡ NoReader

@@ -13,7 +13,7 @@ use Rattle.metric_command_lines.specs.declared.wormweekly.request.Task.TheVarian
 use Rattle.metric_exposition.specs.declared.dialect.Dialect.{Dialect}
 use Rattle.metric_kit_commands.specs.Commands.{SinkRun}
 use Rattle.metric_kit_commands.specs.declared.fault.KitFault.TheVariants.{Memory}
-use Rattle.wormweekly_commands.specs.Answers.{IsAnswer, IsAnswerFault}
+use Rattle.wormweekly_commands.specs.Answers.{HasReaders, IsAnswer, IsAnswerFault}
 use Rattle.wormweekly_commands.specs.Comparing.{RunsDiff}
 use Rattle.wormweekly_commands.specs.Delivered.{IsDelivered, IsDeliveredAnswer, answer_status}
 use Rattle.wormweekly_commands.specs.Drawing.{IsDrawing}
@@ -23,7 +23,7 @@ use Rattle.wormweekly_commands.specs.Inputs.{IsReplayIn, scripted}
 use Rattle.wormweekly_commands.specs.PageReaders.{LacksReader}
 use Rattle.wormweekly_commands.specs.Paging.{ReplaysPage, dialect_of}
 use Rattle.wormweekly_commands.specs.Readings.{AreTexts, IsHeld}
-use Rattle.wormweekly_commands.specs.Reporting.{IsReport, RefusesReport}
+use Rattle.wormweekly_commands.specs.Reporting.{IsReport, RefusesReport, RefusesWhole}
 use Rattle.wormweekly_commands.specs.declared.answer.Answer.{Answer}
 use Rattle.wormweekly_commands.specs.declared.drawing.Drawing.{Drawing}
 use Rattle.wormweekly_commands.specs.declared.fault.ConsoleFault.{ConsoleFault}
@@ -57,19 +57,20 @@ pub record Answers (request : Request) (parts : Parts) (writing : Writing) (stat
     : Type 0 where
   pub answer : Answer
   pub is_answer : IsAnswer request.task request parts answer
+  pub readers : HasReaders request.concerns.outlets answer
   pub delivered : IsDeliveredAnswer request answer writing.made writing.made_after
       writing.contents writing.contents_after
   pub is_status : status ≡ answer_status request answer
 
 -- A fault is of a device, or the first that the parts have, or a
 -- certificate is not there to be checked, or a reader that words name.
-abbrev pub RefusesFor : Task → Parts → ConsoleFault → Type 0
-RefusesFor task parts (Unread role cause) = parts.certificate ≡ None
-RefusesFor task parts (Overwrites role) = ⊥
-RefusesFor task parts (Unwritten cause) = Unit {0}
-RefusesFor task parts (Page fault) = LacksReader parts fault
-RefusesFor task parts (faults.Old fault) = ⊥
-RefusesFor task parts (Kit fault) = IsDeviceFault fault ⊎ IsAnswerFault task fault parts
+abbrev pub RefusesFor : Request → Parts → ConsoleFault → Type 0
+RefusesFor request parts (Unread role cause) = parts.certificate ≡ None
+RefusesFor request parts (Overwrites role) = ⊥
+RefusesFor request parts (Unwritten cause) = Unit {0}
+RefusesFor request parts (Page fault) = LacksReader request.concerns.outlets parts fault
+RefusesFor request parts (faults.Old fault) = ⊥
+RefusesFor request parts (Kit fault) = IsDeviceFault fault ⊎ IsAnswerFault request.task fault parts
 
 -- What a replay of parts comes to in the form that is asked for, which is no page.
 abbrev pub EndsPlain : Request → Parts → Bool → SinkRun → Result (Unit {0}) ConsoleFault → Type 0
@@ -130,7 +131,7 @@ IsUntouched writing =
 pub record RunsAnswer (request : Request) (parts : Parts) (writing : Writing)
     (end : Result ℕ ConsoleFault) : Type 0 where
   pub ok : IfOk end (Answers request parts writing)
-  pub first : IfErr end (RefusesFor request.task parts)
+  pub first : IfErr end (RefusesFor request parts)
   pub untouched : IfErr end (λ fault. IsRefusal fault → IsUntouched writing)
   pub unmade : OnErr end (writing.made_after ≡ writing.made)
 
@@ -148,7 +149,7 @@ pub record Reports (request : Request) (texts : Texts) (writing : Writing) (stat
 pub record RunsReport (request : Request) (texts : Texts) (writing : Writing)
     (end : Result ℕ ConsoleFault) : Type 0 where
   pub ok : IfOk end (Reports request texts writing)
-  pub first : IfErr end (RefusesReport texts)
+  pub first : IfErr end (RefusesWhole request.concerns.outlets texts)
   pub untouched : IfErr end (λ fault. IsRefusal fault → IsUntouched writing)
   pub unmade : OnErr end (writing.made_after ≡ writing.made)
 

@@ -1,19 +1,18 @@
 //! Readers that words name: the one whose page is printed, and those of ways out.
-ghost use Rattle.std.specs.Prelude.{◌≡◌, ◌+◌, ◌≤◌, Err, IfErr, filter, if◌then◌else◌, length};
+ghost use Rattle.std.specs.Prelude.{◌≡◌, ◌+◌, ◌≤◌, Err, Ok, filter, if◌then◌else◌, length};
 ghost use Rattle.std.specs.List.{range_with_len};
 ghost use Rattle.metric_exposure.specs.declared.outlet.Outlet.TheVariants.{Prometheus};
 ghost use Rattle.wormweekly_commands.specs.Exposures.{has_served};
-ghost use Rattle.wormweekly_commands.specs.PageReaders.{IsReaderFault, only_reader, reader_asked, reader_named, with_served};
+ghost use Rattle.wormweekly_commands.specs.PageReaders.{has_reader, is_unknown, names_unknown, only_reader, reader_asked, reader_named, with_served};
+ghost use Rattle.wormweekly_commands.specs.declared.fault.ConsoleFault.TheVariants.{Page};
+ghost use Rattle.wormweekly_commands.specs.declared.fault.PageFault.TheVariants.{NoReader};
 
 use crate::exposures::serves_reader;
 use crate::fault::{ConsoleFault, PageFault};
 use metric_base::Text;
-use metric_command_lines::key_and_value;
+use metric_command_lines::{has_equals, key_and_value};
 use metric_exposure::Outlet;
-use metric_kit_commands::declared_of;
-use metric_parts::Parts;
-use metric_views::{Config, Reader, Stream};
-use std::alloc::Global;
+use metric_views::{Reader, Stream};
 
 /// The number of the reader of a name, or of the only one that pages can serve where none is named.
 pub(crate) fn reader_asked(
@@ -86,47 +85,33 @@ fn with_served(found: Result<u32, PageFault>, reader: u32) -> Result<u32, PageFa
     }
 }
 
-/// Refuses words that name a reader which the config does not have.
-///
-/// # Errors
-///
-/// [`PageFault::NoReader`], the first fault of the parts, and out of memory.
-pub(crate) fn check_readers(
-    alloc: Global,
-    words: &[Text],
-    parts: &Parts<'_>,
-) -> Result<(), ConsoleFault>
-    ensures { IfErr result (IsReaderFault parts.now) }
+/// Refuses words for ways out of which one names a reader behind `=` that is not among these: with
+/// [`PageFault::NoReader`].
+pub(crate) fn check_readers(words: &[Text], readers: &[Reader]) -> Result<(), ConsoleFault>
+    ensures { result ≡ (if names_unknown words.now readers.now
+        then Err (Page NoReader) else Ok tt) }
 {
-    for word in words {
-        check_reader(alloc, word.as_str(), parts)?;
+    if names_unknown(words, readers) {
+        return Err(ConsoleFault::Page(PageFault::NoReader));
     }
     Ok(())
 }
 
-// The same of one word.
-#[tactic(auto, using(crate::proofs::Reports::lacks_reader))]
-fn check_reader(alloc: Global, word: &str, parts: &Parts<'_>) -> Result<(), ConsoleFault>
-    ensures { IfErr result (IsReaderFault parts.now) }
+fn names_unknown(words: &[Text], readers: &[Reader]) -> bool
+    ensures { result ≡ names_unknown words.now readers.now }
 {
-    let (_, name) = key_and_value(word);
-    if name.is_empty() {
-        return Ok(());
-    }
-    let declared = declared_of(alloc, parts)?;
-    match find_reader(name, &declared.config) {
-        Ok(()) => Ok(()),
-        Err(fault) => Err(ConsoleFault::Page(fault)),
-    }
+    words.iter().any(|word| is_unknown(readers, word.as_str()))
 }
 
-// Whether a config has a reader of a name.
-fn find_reader(name: &str, config: &Config) -> Result<(), PageFault>
-    ensures { IfErr result (λ fault.
-        reader_named name.now 0 config.now.readers ≡ Err fault) }
+fn is_unknown(readers: &[Reader], word: &str) -> bool
+    ensures { result ≡ is_unknown readers.now word.now }
 {
-    match reader_named(name, 0, config.readers()) {
-        Ok(_) => Ok(()),
-        Err(fault) => Err(fault),
-    }
+    let (_, name) = key_and_value(word);
+    has_equals(word) && !has_reader(readers, name)
+}
+
+fn has_reader(readers: &[Reader], name: &str) -> bool
+    ensures { result ≡ has_reader readers.now name.now }
+{
+    readers.iter().any(|reader| reader.name.as_str() == name)
 }

@@ -1,5 +1,6 @@
 //! A request, run.
-ghost use Rattle.std.specs.Prelude.{◌≡◌, ◌≢◌, IfErr, IfOk, IsSome, IsSomeAnd, MatchOption, None, OnErr, false, true};
+ghost use Rattle.std.specs.Prelude.{◌≡◌, ◌≢◌, IfErr, IfOk, IsSome, IsSomeAnd, MatchOption, None, OnErr, OnOk, false, true};
+ghost use Rattle.wormweekly_commands.specs.Answers.{HasReaders, IsUnknownReader};
 ghost use Rattle.wormweekly_commands.specs.Comparing.{Compares, RefusesDiff};
 ghost use Rattle.wormweekly_commands.specs.Faults.{IsDeviceFault, IsRefusal};
 ghost use Rattle.metric_kit_commands.specs.Commands.{HasNeeded, sink_run};
@@ -7,11 +8,11 @@ ghost use Rattle.metric_kit_commands.specs.Replaying.{needs_of, plain_options};
 ghost use Rattle.wormweekly_commands.specs.Paging.{dialect_of};
 ghost use Rattle.wormweekly_commands.specs.Runs.{Answers, EndsPlain, EndsScript, IsOld, IsOneFile, IsOverwriting, IsReplayEnd, NamesInput, NamesOld, RefusesFor, Replays, RunsCommand, RunsRequest};
 ghost use Rattle.wormweekly_commands.specs.Runs.{Reports, RunsTexts, known_by, writing};
-ghost use Rattle.wormweekly_commands.specs.Reporting.{RefusesReport};
+ghost use Rattle.wormweekly_commands.specs.Reporting.{RefusesWhole};
 ghost use Rattle.wormweekly_commands.specs.Told.{IsLineEnd};
 
 use crate::accepting::{accepted_of, tell_unused};
-use crate::answer::answer_of;
+use crate::answer::{Answer, answer_of};
 use crate::change_sheet::ChangeSheet;
 use crate::comparing::{comparison_of, diff_status};
 use crate::concerns::{kept, still_open};
@@ -184,7 +185,7 @@ fn run_texts<F: Folder, W: Sink, E: Sink>(
 }
 
 // Answers of the texts what a request asks for, writes the answer, and tells what is to be warned of. The exit status.
-#[tactic(auto, using(crate::proofs::Devices::delivery_is_no_refusal, crate::proofs::Reports::reader_refuses_lint))]
+#[tactic(auto, using(crate::proofs::Devices::delivery_is_no_refusal, crate::proofs::Reports::unknown_reader_refuses))]
 fn run_answer<F: Folder, W: Sink, E: Sink>(
     alloc: Global,
     request: &Request,
@@ -201,7 +202,7 @@ fn run_answer<F: Folder, W: Sink, E: Sink>(
     requires picture { request.now.task ≢ Task.Draw }
     ensures ok { IfOk result (Answers request.now texts.now.parts
         (writing F.made W.contents folder.old folder.new sink.old sink.new)) }
-    ensures first { IfErr result (RefusesFor request.now.task texts.now.parts) }
+    ensures first { IfErr result (RefusesFor request.now texts.now.parts) }
     ensures unmade { OnErr result (F.made folder.new ≡ F.made folder.old) }
     ensures unwritten { IfErr result (λ fault. IsRefusal fault → sink.new ≡ sink.old) }
 {
@@ -209,13 +210,22 @@ fn run_answer<F: Folder, W: Sink, E: Sink>(
     if task == Task::Check && texts.parts.certificate.is_none() {
         return Err(missing(Role::Certificate));
     }
-    if task == Task::Lint {
-        check_readers(alloc, request.concerns.outlets.as_slice(), &texts.parts)?;
-    }
     let answer = answer_of(alloc, task, request, &texts.parts)?;
+    check_answer(request.concerns.outlets.as_slice(), &answer)?;
     let status = deliver(alloc, request, texts, &answer, columns, folder, sink)?;
     warn(alloc, request, texts, &answer, errors);
     Ok(status)
+}
+
+// Refuses an answer where a reader that words name is not there.
+fn check_answer(words: &[Text], answer: &Answer) -> Result<(), ConsoleFault>
+    ensures ok { OnOk result (HasReaders words.now answer.now) }
+    ensures err { IfErr result (λ fault. IsUnknownReader words.now answer.now fault) }
+{
+    match answer {
+        Answer::Notes(notes) => check_readers(words, notes.declared.config.readers()),
+        _ => Ok(()),
+    }
 }
 
 // Compares old files with new ones, and writes what differs. The exit status.
@@ -265,7 +275,7 @@ fn print_changes<W: Sink>(
 }
 
 // Writes a report. The exit status.
-#[tactic(auto, using(crate::proofs::Devices::delivery_is_no_refusal, crate::proofs::Reports::delivery_refuses))]
+#[tactic(auto, using(crate::proofs::Devices::delivery_is_no_refusal, crate::proofs::Reports::delivery_refuses_whole))]
 fn run_report<F: Folder, W: Sink>(
     alloc: Global,
     request: &Request,
@@ -275,7 +285,7 @@ fn run_report<F: Folder, W: Sink>(
 ) -> Result<u8, ConsoleFault>
     ensures ok { IfOk result (Reports request.now texts.now
         (writing F.made W.contents folder.old folder.new sink.old sink.new)) }
-    ensures first { IfErr result (RefusesReport texts.now) }
+    ensures first { IfErr result (RefusesWhole request.now.concerns.outlets texts.now) }
     ensures unmade { OnErr result (F.made folder.new ≡ F.made folder.old) }
     ensures unwritten { IfErr result (λ fault. IsRefusal fault → sink.new ≡ sink.old) }
 {

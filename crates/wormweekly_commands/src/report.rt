@@ -1,6 +1,6 @@
 //! What a report has.
 ghost use Rattle.std.specs.Prelude.{IfErr, IfOk};
-ghost use Rattle.wormweekly_commands.specs.Reporting.{AreDifferences, IsReport, RefusesReport};
+ghost use Rattle.wormweekly_commands.specs.Reporting.{AreDifferences, HasParts, IsReport, RefusesReport, RefusesWhole};
 
 use crate::comparing::{Comparison, compared};
 use crate::drawing::picture_of;
@@ -38,18 +38,28 @@ impl Drop for Report {
 ///
 /// # Errors
 ///
-/// A reader that words name and the config does not have; the first fault of the old files, as [`ConsoleFault::Old`], or
-/// of the new ones; and [`KitFault::Memory`].
-#[tactic(auto, using(crate::proofs::Reports::declared_refused, crate::proofs::Reports::reader_refuses_report))]
+/// The first fault of the old files, as [`ConsoleFault::Old`], or of the new ones; a reader that words name and the
+/// config does not have; and [`KitFault::Memory`].
+#[tactic(auto, using(crate::proofs::Reports::report_refuses_whole, crate::proofs::Reports::lacking_refuses_whole))]
 pub(crate) fn report_of(
     alloc: Global,
     request: &Request,
     texts: &Texts,
 ) -> Result<Report, ConsoleFault>
     ensures ok { IfOk result (IsReport request.now texts.now) }
+    ensures first { IfErr result (RefusesWhole request.now.concerns.outlets texts.now) }
+{
+    let report = all_of(alloc, request, texts)?;
+    let readers = report.notes.declared.config.readers();
+    check_readers(request.concerns.outlets.as_slice(), readers)?;
+    Ok(report)
+}
+
+#[tactic(auto, using(crate::proofs::Reports::declared_refused))]
+fn all_of(alloc: Global, request: &Request, texts: &Texts) -> Result<Report, ConsoleFault>
+    ensures ok { IfOk result (HasParts request.now texts.now) }
     ensures first { IfErr result (RefusesReport texts.now) }
 {
-    check_readers(alloc, request.concerns.outlets.as_slice(), &texts.parts)?;
     let comparison = differences_of(alloc, texts)?;
     let listing = listing_of(alloc, &texts.parts)?;
     let notes = notes_of(alloc, request, &texts.parts)?;

@@ -40,8 +40,8 @@ fn all_have_equals(words: &[&str]) -> bool
     words.iter().all(|word| has_equals(word))
 }
 
-// Whether a word has a key and a value.
-fn has_equals(word: &str) -> bool
+/// Whether a word has a key and a value, with `=` between.
+pub fn has_equals(word: &str) -> bool
     ensures { result ≡ has_equals word.now }
 {
     word.as_bytes().iter().any(|byte| *byte == b'=')

@@ -39,6 +39,8 @@ const FORMS: &str =
     "Print batches alone, `otlp-json` or `otlp-bytes`, or the page of the last of them, \
     `prometheus`, `openmetrics` or `openmetrics-created`";
 
+pub(crate) const FAULT_AS_JSON: &str = "Print a fault as a line of JSON";
+
 const LINTS: &str = "Kinds, each to be named as often as wanted:
   unfit              a view that names an aggregation that does not fit
   collision          two streams of one identity
@@ -223,8 +225,7 @@ fn make<'a>(alloc: Global) -> Result<Command<'a>, AllocError>
         "Example:\n  wormweekly make catalogue.toml config.toml -o certificate.toml",
     );
     let command = with_argument(command, output(alloc));
-    let help = "Print a fault as a line of JSON";
-    with_argument(command, flag(alloc, "json", help))
+    with_argument(command, flag(alloc, "json", FAULT_AS_JSON))
 }
 
 fn check<'a>(alloc: Global) -> Result<Command<'a>, AllocError>
@@ -265,7 +266,8 @@ fn replay<'a>(alloc: Global) -> Result<Command<'a>, AllocError>
     let help = "An attribute of what produces them, as often as wanted";
     let command = with_argument(command, texts(alloc, "resource", "KEY=VALUE", help));
     let help = "The reader of a page, where the config has several";
-    with_argument(command, text(alloc, "reader", "NAME", help))
+    let command = with_argument(command, text(alloc, "reader", "NAME", help));
+    with_argument(command, flag(alloc, "json", FAULT_AS_JSON))
 }
 
 fn draw<'a>(alloc: Global) -> Result<Command<'a>, AllocError>

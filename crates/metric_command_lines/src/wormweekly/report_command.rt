@@ -4,8 +4,10 @@ ghost use Rattle.clap.specs.Words.{app_of, rule_of};
 ghost use Rattle.clap.specs.declared.builder.command.Command.TheViews.{out-Command as fields_of};
 ghost use Rattle.metric_command_lines.specs.Apps.{changed_app, old_rule, report_app};
 
-use crate::wormweekly::arguments::{number, output, text, texts};
-use crate::wormweekly::commands::{MOST_INSTANCES, MOST_RATE, over_pair, with_argument};
+use crate::wormweekly::arguments::{flag, number, output, text, texts};
+use crate::wormweekly::commands::{
+    FAULT_AS_JSON, MOST_INSTANCES, MOST_RATE, over_pair, with_argument,
+};
 use clap::{Arg, Command};
 use std::alloc::{AllocError, Global};
 
@@ -47,6 +49,7 @@ pub(crate) fn over_change<'a>(
 {
     let command = over_pair(alloc, name, about, example);
     let command = with_argument(command, output(alloc));
+    let command = with_argument(command, flag(alloc, "json", FAULT_AS_JSON));
     let help = "The catalogue before the change; without one, the same";
     let catalogue = old(alloc, "old_catalogue", "old-catalogue", help);
     let command = with_argument(command, catalogue);

@@ -8,4 +8,5 @@ returns-clause-app c =
     let third = c.with_argument-command-3.ensures.app _ _ second c.flag.ensures.rule c.flag.ensures.own in
     let fourth = c.with_argument-command-4.ensures.app _ _ third c.text.ensures.rule c.text.ensures.own in
     let fifth = c.with_argument-command-5.ensures.app _ _ fourth c.texts.ensures.rule c.texts.ensures.own in
-    c.with_argument.ensures.app _ _ fifth c.text-2.ensures.rule c.text-2.ensures.own
+    let sixth = c.with_argument-command-6.ensures.app _ _ fifth c.text-2.ensures.rule c.text-2.ensures.own in
+    c.with_argument.ensures.app _ _ sixth c.flag-2.ensures.rule c.flag-2.ensures.own
