@@ -11,7 +11,7 @@ use Rattle.metric_history.specs.History.{History, answered}
 use Rattle.metric_history.specs.Legal.{AllLegal, grown}
 use Rattle.metric_history.specs.declared.event.Event.{Event}
 use Rattle.metric_history.specs.declared.event.Reply.{Reply}
-use Rattle.metric_io.specs.Prefix.{AppendsPrefix}
+use Rattle.metric_io.specs.Prefix.{AppendsPrefix, prefix_so_far}
 use Rattle.metric_plan.specs.Plans.{PlanValue}
 use Rattle.metric_kit_commands.specs.DueRuns.{all_due_kept, all_due_legal}
 use Rattle.metric_kit_commands.specs.Replies.{formed_text, is_want_of_memory}
@@ -125,3 +125,40 @@ pub run_begins : {B : Type 0} (text : PlanValue → Reply → List ℕ) (standin
     → CoreStands standing core [] → RunSoFar text standing old old plan start core events events
 unfolding parts_text due_replies due_history
 run_begins text standing old plan start core events stands = record { done = []; whole = refl; written = Appends-nil old; stands = stands }
+
+-- The first events were run, and what was tallied tells of their replies.
+pub record TalliedSoFar {B T : Type 0} (tells : T → T → List Reply → Type 0) (standing : B → Standing) (begun now : T) (plan : PlanValue) (start : ℕ) (core : CoreValue B)
+    (events rest : List Event) : Type 0 where
+  pub done : List Event
+  pub whole : events ≡ done ++ rest
+  pub told : tells begun now (due_replies plan.facts start [] done)
+  pub stands : CoreStands standing core (due_history plan.facts start [] done)
+
+pub tally_begins : {B T : Type 0} (tells : T → T → List Reply → Type 0) (standing : B → Standing) (begun : T) (plan : PlanValue) (start : ℕ) (core : CoreValue B) (events : List Event)
+    → CoreStands standing core [] → tells begun begun [] → TalliedSoFar tells standing begun begun plan start core events events
+unfolding due_replies due_history
+tally_begins tells standing begun plan start core events stands none = record { done = []; whole = refl; told = none; stands = stands }
+
+pub piece_tallied : {B T : Type 0} (tells : T → T → List Reply → Type 0) (standing : B → Standing) (begun now next : T) (plan : PlanValue) (start : ℕ) (core after : CoreValue B)
+    (events rest piece others : List Event) (replies : List Reply) (so_far : TalliedSoFar tells standing begun now plan start core events rest) → rest ≡ piece ++ others
+    → ((h : History) → CoreStands standing core h → replies ≡ due_replies plan.facts start h piece)
+    → ((h : History) → CoreStands standing core h → CoreStands standing after (due_history plan.facts start h piece))
+    → ((told : List Reply) → tells begun now told → tells begun next (told ++ replies))
+    → TalliedSoFar tells standing begun next plan start after events others
+piece_tallied tells standing begun now next plan start core after events rest piece others replies so_far parted due runs adds =
+    let h = due_history plan.facts start [] so_far.done in
+    record {
+      done = so_far.done ++ piece;
+      whole = so_far.whole ∙ ap (λ (l : List Event). so_far.done ++ l) parted ∙ sym (append_assoc so_far.done piece others);
+      told = subst (tells begun next)
+          (ap (λ (l : List Reply). due_replies plan.facts start [] so_far.done ++ l) (due h so_far.stands) ∙ sym (due_replies-append plan.facts start [] so_far.done piece))
+          (adds (due_replies plan.facts start [] so_far.done) so_far.told);
+      stands = subst (CoreStands standing after) (sym (due_history-append plan.facts start [] so_far.done piece)) (runs h so_far.stands);
+    }
+
+-- what was written so far is a prefix of all
+pub written_so_far : {B : Type 0} (text : PlanValue → Reply → List ℕ) (standing : B → Standing) (old now : Option (List ℕ)) (plan : PlanValue) (start : ℕ) (core : CoreValue B)
+    (events rest : List Event) (so_far : RunSoFar text standing old now plan start core events rest) → AppendsPrefix old now (due_text text plan start [] events)
+written_so_far text standing old now plan start core events rest so_far =
+    prefix_so_far old now _ (due_text text plan start [] so_far.done) (due_text text plan start (due_history plan.facts start [] so_far.done) rest) so_far.written
+    (ap (due_text text plan start []) so_far.whole ∙ due_text-append text plan start [] so_far.done rest)

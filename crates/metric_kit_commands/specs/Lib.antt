@@ -13,6 +13,7 @@ pub mod DueRuns
 pub mod Declarations
 pub mod Replaying
 pub mod Pages
+pub mod PageLaws
 pub mod Showing
 pub mod RunLaws
 pub mod TextLaws

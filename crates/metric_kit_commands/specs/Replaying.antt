@@ -1,5 +1,5 @@
 -- What a replay makes of the bytes of its input.
-use Rattle.std.specs.Prelude.{◌≡◌, ◌⊎◌, ◌++◌, ℕ, Bool, true, false, not, List, [], Some}
+use Rattle.std.specs.Prelude.{◌≡◌, ◌⊎◌, ◌++◌, ℕ, Bool, true, false, not, List, [], Option, Some, None}
 use Rattle.std.specs.Prelude.{if◌then◌else◌}
 use Rattle.std.specs.List.{flat_map}
 use Rattle.std.proofs.Common.{inr}
@@ -9,7 +9,8 @@ use Rattle.metric_parts.specs.Kept.{IsRead}
 use Rattle.metric_parts.specs.Texts.{ScriptLines}
 use Rattle.metric_parts.specs.declared.needs.Needs.{Needs}
 use Rattle.metric_parts.specs.declared.parts.Parts.{Parts}
-use Rattle.metric_script.specs.Scripts.{IsScript, IsFirstFaultAt}
+use Rattle.metric_script.specs.Scripts.{IsScript, IsFirstFaultAt, IsSomeScript}
+use Rattle.metric_script.specs.Stops.{script_events}
 use Rattle.metric_contents.specs.declared.contents.Contents.{Contents}
 use Rattle.metric_views.specs.declared.config.Setup.{Setup}
 use Rattle.metric_plan.specs.Counting.{is_counted}
@@ -70,6 +71,21 @@ IsPlanned options read plan =
     ((options.trial ≡ true) × IsTrialPlan read plan)
     ⊎ ((options.trial ≡ false) × IsCertifiedPlan read plan)
 
+-- the events of the script of some parts, where they have one
+abbrev pub script_events_in : Option ScriptLines → List Event
+script_events_in (Some script) = script_events script.lines
+script_events_in None = []
+
+abbrev pub script_events_of : Parts → List Event
+script_events_of read = script_events_in read.script
+
+abbrev pub HasEventsIn : Option ScriptLines → Type 0
+HasEventsIn (Some script) = IsSomeScript script.lines
+HasEventsIn None = ⊥
+
+abbrev pub HasEvents : Parts → Type 0
+HasEvents read = HasEventsIn read.script
+
 -- What the parts declare, and the events of their script since a start.
 pub record IsPrepared (options : ReplayOptions) (read : Parts) (plan : PlanValue) (start : ℕ)
     (events : List Event) : Type 0 where
@@ -91,10 +107,13 @@ pub record IsAnswered (options : ReplayOptions) (read : Parts) (plan : PlanValue
   pub is_script : IsScript script.lines start events
   pub run : IsRun plan start events replies
 
--- The replies under some plan.
-pub record AreReplies (options : ReplayOptions) (read : Parts) (replies : List Reply) : Type 0 where
+-- What was told holds of the replies, under some plan.
+pub record IsTallied (options : ReplayOptions) (read : Parts) (Told : List Reply → Type 0)
+    : Type 0 where
   pub plan : PlanValue
+  pub replies : List Reply
   pub answered : IsAnswered options read plan replies
+  pub told : Told replies
 
 -- What an audited run comes to: the replies, with how many recordings they accept, and the
 -- audit of each instrument ends well.

@@ -67,7 +67,7 @@ impl Command for Check {
 
     ghost is_first_fault = { λ _. IsFirst };
 
-    ghost text = { λ _ _. accepted_text };
+    ghost text = { λ _ _ _. accepted_text };
 
     fn needed_parts(&self) -> Needs {
         Needs {
@@ -80,7 +80,13 @@ impl Command for Check {
         certified_plan(alloc, parts)
     }
 
-    fn write<W: Sink>(&self, _alloc: Global, sink: &mut W, _plan: Plan) -> Result<(), KitFault> {
+    fn write<W: Sink>(
+        &self,
+        _alloc: Global,
+        sink: &mut W,
+        _parts: &Parts<'_>,
+        _plan: Plan,
+    ) -> Result<(), KitFault> {
         write_text(sink, b"accepted\n")
     }
 

@@ -5,7 +5,6 @@ ghost use Rattle.metric_io.specs.Prefix.{AppendsPrefix};
 ghost use Rattle.metric_kit_commands.specs.Commands.{HasNeeded, IsAnswerTo, RunsCommand, RunsParts, sink_run, source_run};
 ghost use Rattle.metric_kit_commands.specs.Faults.{IsOfInput};
 ghost use Rattle.metric_kit_commands.specs.Written.{IsSinkFault};
-ghost use Rattle.metric_parts.specs.declared.parts.Parts.{Parts as read_parts};
 
 use crate::fault::KitFault;
 use metric_io::{Sink, Source, read_all};
@@ -36,7 +35,7 @@ pub(crate) trait Command {
 
     ghost is_first_fault: { Self → List ℕ → Fault → Type 0 };
 
-    ghost text: { Self → Self.Answer → List ℕ };
+    ghost text: { Self → Read → Self.Answer → List ℕ };
 
     /// Which parts of an input the command needs.
     fn needed_parts(&self) -> Needs
@@ -51,24 +50,25 @@ pub(crate) trait Command {
         ensures first { IfErr result (λ fault. is_fault self.now fault parts.now) }
         ensures own { IfErr result IsOfInput };
 
-    /// Writes the text of an answer to the parts of some input.
+    /// Writes the text of the answer to the parts of an input.
     fn write<W: Sink>(
         &self,
         alloc: Global,
         sink: &mut W,
+        parts: &Parts<'_>,
         answer: Self::Answer,
     ) -> Result<(), KitFault>
-        requires { (read : Read) × is_answer self.now read answer }
-        ensures ok { OnOk result
-            (Appends (W.contents sink.old) (W.contents sink.new) (text self.now answer)) }
+        requires { is_answer self.now parts.now answer }
+        ensures ok { OnOk result (Appends (W.contents sink.old) (W.contents sink.new)
+            (text self.now parts.now answer)) }
         ensures prefix { AppendsPrefix (W.contents sink.old) (W.contents sink.new)
-            (text self.now answer) }
+            (text self.now parts.now answer) }
         ensures broken { IfErr result (IsSinkFault (W.failures sink.old) (W.failures sink.new)) }
         ensures counted { OnOk result (W.failures sink.new ≡ W.failures sink.old) };
 
     // The text of an answer to the parts is due of them.
     ghost answered: { (command : Self) (read : Read) (answer : Self.Answer)
-        → is_answer command read answer → is_due command read (text command answer) };
+        → is_answer command read answer → is_due command read (text command read answer) };
 
     // A fault of the parts is the first of the input.
     ghost refused: { (command : Self) (input : List ℕ) (read : Read) (fault : Fault)
@@ -98,8 +98,10 @@ pub(crate) fn run_whole<C: Command, R: Source, W: Sink>(
         (sink_run W.contents W.failures sink.old sink.new) result }
 {
     let input = read_all(alloc, source)?;
-    let answer = read_and_answer(alloc, command, &input)?;
-    write_answer(alloc, command, sink, answer)
+    let lines = lines(alloc, &input)?;
+    let parts = parts_of(alloc, &lines, command.needed_parts())?;
+    let answer = command.answer(alloc, &parts)?;
+    write_answer(alloc, command, sink, &parts, answer)
 }
 
 /// Writes the text of the command's answer to parts that were read.
@@ -115,7 +117,7 @@ pub(crate) fn run_parts<C: Command, W: Sink>(
         (sink_run W.contents W.failures sink.old sink.new) result }
 {
     let answer = command.answer(alloc, parts)?;
-    write_answer(alloc, command, sink, answer)
+    write_answer(alloc, command, sink, parts, answer)
 }
 
 /// The answer of a command to an input.
@@ -140,16 +142,17 @@ fn write_answer<C: Command, W: Sink>(
     alloc: Global,
     command: &C,
     sink: &mut W,
+    parts: &Parts<'_>,
     answer: C::Answer,
 ) -> Result<(), KitFault>
-    requires { (read : read_parts) × C.is_answer command.now read answer }
+    requires { C.is_answer command.now parts.now answer }
     ensures ok { OnOk result (Appends (W.contents sink.old) (W.contents sink.new)
-        (C.text command.now answer)) }
+        (C.text command.now parts.now answer)) }
     ensures prefix { AppendsPrefix (W.contents sink.old) (W.contents sink.new)
-        (C.text command.now answer) }
+        (C.text command.now parts.now answer) }
     ensures broken { IfErr result (IsSinkFault (W.failures sink.old) (W.failures sink.new)) }
 {
-    command.write(alloc, sink, answer)?;
+    command.write(alloc, sink, parts, answer)?;
     sink.flush()?;
     Ok(())
 }

@@ -23,14 +23,16 @@ mod replays;
 mod replies;
 mod show;
 mod slips;
+mod tally;
 
 pub use checks::{check_run, checked_plan};
 pub use fault::KitFault;
 pub use laws::one_output;
 pub use makes::{certificate_text, make_run};
 pub use options::ReplayOptions;
-pub use page_replays::{PageForm, replay_page, replies_of};
+pub use page_replays::{PageForm, replay_page};
 pub use parts::{PartWriter, write_parts, write_text};
 pub use planning::{Declared, certified_plan, declared_of};
 pub use replays::{replay, replay_encoded, replay_parts};
 pub use show::show_run;
+pub use tally::{Tally, tally_replies};

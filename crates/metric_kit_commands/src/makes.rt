@@ -54,7 +54,7 @@ impl Command for Make {
 
     ghost is_first_fault = { λ _. IsFirst };
 
-    ghost text = { λ _ text. string_bytes text };
+    ghost text = { λ _ _ text. string_bytes text };
 
     fn needed_parts(&self) -> Needs {
         Needs {
@@ -67,7 +67,13 @@ impl Command for Make {
         certificate_text(alloc, parts)
     }
 
-    fn write<W: Sink>(&self, _alloc: Global, sink: &mut W, text: String) -> Result<(), KitFault> {
+    fn write<W: Sink>(
+        &self,
+        _alloc: Global,
+        sink: &mut W,
+        _parts: &Parts<'_>,
+        text: String,
+    ) -> Result<(), KitFault> {
         write_text(sink, text.as_bytes())
     }
 

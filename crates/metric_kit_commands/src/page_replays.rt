@@ -1,18 +1,18 @@
 //! A script replayed, of which the last batches of a reader are written, as a page has them.
-ghost use Rattle.std.specs.Prelude.{◌≡◌, ◌++◌, false, IfErr, IfOk, IsSome, OnOk};
-ghost use Rattle.std.specs.Option.{option_copied};
+ghost use Rattle.std.specs.Prelude.{◌≡◌, ◌++◌, [], false, IfErr, IfOk, IsSome, OnOk};
+ghost use Rattle.std.specs.List.{flat_map};
 ghost use Rattle.metric_kit_commands.specs.Commands.{HasNeeded, RunsParts, sink_run};
 ghost use Rattle.metric_kit_commands.specs.Faults.{IsOfInput};
-ghost use Rattle.metric_kit_commands.specs.Pages.{IsPage, batch_of, last_batch, last_lines, lines_of_last, page_text};
-ghost use Rattle.metric_kit_commands.specs.Replaying.{AreReplies, IsAnswered, IsReplayFault, needs_of, plain_options};
+ghost use Rattle.metric_kit_commands.specs.Pages.{AreLast, IsPage, IsPageRun, Keeps, KeepsLast, lines_of_batch, page_of_last};
+ghost use Rattle.metric_kit_commands.specs.Replaying.{IsReplayFault, needs_of, plain_options};
 
 use crate::command::{Command, run_parts};
 use crate::fault::KitFault;
 use crate::options::ReplayOptions;
 use crate::parts::write_text;
-use crate::pieces::run_piece;
-use crate::prepared::{PreparedRun, prepared_run};
+use crate::prepared::{PreparedRun, event_lines, prepared_run};
 use crate::replays::plain_options;
+use crate::tally::{Tally, tally_run};
 use metric_core::Core;
 use metric_export::Encoding;
 use metric_history::{Batch, Reply};
@@ -37,7 +37,7 @@ pub struct PageForm<'a, E> {
 
 /// [`replay_parts`](crate::replay_parts) without an audit, which writes one page: what it begins with, the last batch
 /// that the reader collected of each instrument in the order of the catalogue, each in an encoding, and what it ends
-/// with. Memory holds all replies.
+/// with. Memory holds these batches and a few replies.
 ///
 /// # Errors
 ///
@@ -58,25 +58,6 @@ pub fn replay_page<E: Encoding, W: Sink>(
     run_parts(alloc, &PageReplay { trial, form }, parts, sink)
 }
 
-/// The replies to the script of parts, without an audit.
-///
-/// # Errors
-///
-/// The first fault of the parts, or [`KitFault::Memory`].
-pub fn replies_of(alloc: Global, trial: bool, parts: &Parts<'_>) -> Result<Vec<Reply>, KitFault>
-    requires { HasNeeded (needs_of (plain_options trial)) parts.now }
-    ensures replies { IfOk result (λ replies.
-        AreReplies (plain_options trial) parts.now replies.items) }
-    ensures first { IfErr result (λ fault. IsReplayFault (plain_options trial) fault parts.now) }
-    ensures own { IfErr result IsOfInput }
-{
-    let PageRun {
-        core: _core,
-        replies,
-    } = page_run(alloc, plain_options(trial), parts)?;
-    Ok(replies)
-}
-
 // A replay of which a page is written.
 #[derive(Clone, Copy)]
 struct PageReplay<'a, E> {
@@ -84,123 +65,156 @@ struct PageReplay<'a, E> {
     form: &'a PageForm<'a, E>,
 }
 
-// A run with its replies.
+// A run with the last batches of a reader.
 #[derive(Drop)]
 struct PageRun {
     core: Core<Marked>,
-    replies: Vec<Reply>,
+    batches: LastBatches,
 }
 
-// The replies to the script of an input.
-fn page_run(alloc: Global, options: ReplayOptions, parts: &Parts<'_>) -> Result<PageRun, KitFault>
+// The last batch that a reader collected of each instrument.
+#[derive(Drop)]
+struct LastBatches {
+    reader: u32,
+    last: Vec<Option<Batch>>,
+}
+
+impl LastBatches {
+    // None yet of so many instruments.
+    fn none(alloc: Global, reader: u32, count: usize) -> Result<LastBatches, AllocError>
+        ensures reader { IfOk result (λ batches. batches.reader ≡ reader) }
+        ensures last { IfOk result (λ batches. AreLast reader count batches.last.items []) }
+    {
+        let mut last = Vec::with_capacity(alloc, count)?;
+        for _ in 0..count {
+            last.push(None)?;
+        }
+        Ok(LastBatches { reader, last })
+    }
+
+    // Keeps the batch of a reply where it is of the reader and of one of the instruments.
+    fn keep(&mut self, reply: Reply)
+        ensures reader { self.new.reader ≡ self.old.reader }
+        ensures last { KeepsLast self.old.reader self.old.last.items self.new.last.items reply }
+    {
+        if let Reply::Collected(batch) = reply
+            && batch.reader == self.reader
+            && (batch.instrument as usize) < self.last.len()
+        {
+            let place = batch.instrument as usize;
+            self.last[place] = Some(batch);
+        }
+    }
+
+    // Keeps those of replies, one after the other.
+    fn keep_all(&mut self, replies: Vec<Reply>)
+        ensures { Keeps self.old.reader self.old.last.items self.new.reader self.new.last.items
+            replies.items }
+    {
+        for reply in replies {
+            self.keep(reply);
+        }
+    }
+}
+
+impl Tally for LastBatches {
+    ghost use Rattle.std.specs.Prelude.{length};
+    ghost use Rattle.metric_kit_commands.specs.Pages.{AreLast as Last};
+
+    ghost tells = { λ begun now told. (now.reader ≡ begun.reader)
+        × Last begun.reader (length begun.last.items) now.last.items told };
+
+    fn add(&mut self, replies: Vec<Reply>) -> Result<(), AllocError> {
+        self.keep_all(replies);
+        Ok(())
+    }
+}
+
+// The run of the script of parts, with the last batches of a reader.
+fn page_run(
+    alloc: Global,
+    options: ReplayOptions,
+    reader: u32,
+    parts: &Parts<'_>,
+) -> Result<PageRun, KitFault>
     requires certificate { options.trial ≡ false → IsSome parts.now.certificate }
     requires script { IsSome parts.now.script }
-    ensures ok { IfOk result (λ run. IsAnswered options parts.now run.core.plan run.replies.items) }
+    ensures ok { IfOk result (λ run. IsPageRun options reader parts.now run.core.plan
+        run.batches.last.items) }
     ensures first { IfErr result (λ fault. IsReplayFault options fault parts.now) }
     ensures own { IfErr result IsOfInput }
 {
     let run = prepared_run(alloc, options, parts)?;
-    let PreparedRun {
-        mut core,
-        start: _,
-        events,
-    } = run;
-    let replies = run_piece(alloc, &mut core, events.as_slice())?;
-    Ok(PageRun { core, replies })
+    let PreparedRun { mut core, start: _ } = run;
+    let count = core.plan().catalogue().instruments().len();
+    let mut batches = LastBatches::none(alloc, reader, count)?;
+    tally_run::<Marked, LastBatches>(alloc, &mut batches, &mut core, event_lines(parts))?;
+    Ok(PageRun { core, batches })
 }
 
-// The page of some replies.
+// The page of the last batches of a reader.
 fn page_of<E: Encoding>(
     alloc: Global,
     form: &PageForm<'_, E>,
     plan: &Plan,
-    replies: &[Reply],
+    batches: &[Option<Batch>],
 ) -> Result<Vec<u8>, AllocError>
-    ensures { IfOk result (λ text. text.items ≡ page_text (E.text form.now.encoding.now)
-        form.now.reader form.now.head.now form.now.tail.now plan.now replies.now) }
+    ensures { IfOk result (λ text. text.items ≡ page_of_last (E.text form.now.encoding.now)
+        form.now.head.now form.now.tail.now plan.now batches.now) }
 {
     let mut text = Vec::new(alloc);
     text.extend_from_slice(form.head)?;
-    push_lines(alloc, &mut text, form, plan, replies)?;
+    push_batches(alloc, &mut text, form.encoding, plan, batches)?;
     text.extend_from_slice(form.tail)?;
     Ok(text)
 }
 
-// Puts the last batch of each instrument last.
-fn push_lines<E: Encoding>(
+// Puts each batch last.
+fn push_batches<E: Encoding>(
     alloc: Global,
     out: &mut Vec<u8>,
-    form: &PageForm<'_, E>,
+    encoding: &E,
     plan: &Plan,
-    replies: &[Reply],
+    batches: &[Option<Batch>],
 ) -> Result<(), AllocError>
     ensures { OnOk result (out.new.items ≡ out.old.items
-        ++ last_lines (E.text form.now.encoding.now) form.now.reader plan.now replies.now) }
+        ++ flat_map (lines_of_batch (E.text encoding.now plan.now)) batches.now) }
 {
-    let count = plan.catalogue().instruments().len() as u32;
-    for instrument in 0..count {
-        push_last(alloc, out, form, plan, replies, instrument)?;
+    for batch in batches {
+        push_batch(alloc, out, encoding, plan, batch)?;
     }
     Ok(())
 }
 
-// Puts the last batch of an instrument last.
-fn push_last<E: Encoding>(
+// Puts a batch last, where there is one.
+fn push_batch<E: Encoding>(
     alloc: Global,
     out: &mut Vec<u8>,
-    form: &PageForm<'_, E>,
+    encoding: &E,
     plan: &Plan,
-    replies: &[Reply],
-    instrument: u32,
+    batch: &Option<Batch>,
 ) -> Result<(), AllocError>
-    ensures { OnOk result (out.new.items ≡ out.old.items ++ lines_of_last
-        (E.text form.now.encoding.now) form.now.reader plan.now replies.now instrument) }
+    ensures { OnOk result (out.new.items ≡ out.old.items
+        ++ lines_of_batch (E.text encoding.now plan.now) batch.now) }
 {
-    match last_batch(replies, form.reader, instrument) {
-        Some(batch) => form.encoding.push(alloc, out, plan, batch),
+    match batch {
+        Some(batch) => encoding.push(alloc, out, plan, batch),
         None => Ok(()),
     }
 }
 
-// The last batch of a reader and an instrument among some replies. A catalogue has 512 instruments at most, so that all
-// of them are found in so many turns over the replies.
-fn last_batch<'a>(replies: &'a [Reply], reader: u32, instrument: u32) -> Option<&'a Batch>
-    ensures { option_copied result ≡ last_batch reader instrument replies.now }
-{
-    let mut last = None;
-    let mut rest = replies;
-    'rest: while let Some((reply, later)) = rest.split_first() {
-        if let Some(batch) = batch_of(reply, reader, instrument) {
-            last = Some(batch);
-        }
-        rest = later;
-    }
-    last
-}
-
-// The batch of a reply, where it is of the reader and the instrument.
-fn batch_of<'a>(reply: &'a Reply, reader: u32, instrument: u32) -> Option<&'a Batch>
-    ensures { option_copied result ≡ batch_of reader instrument reply.now }
-{
-    match reply {
-        Reply::Collected(batch) if batch.reader == reader && batch.instrument == instrument => {
-            Some(batch)
-        }
-        _ => None,
-    }
-}
-
 impl<E: Encoding> Command for PageReplay<'_, E> {
-    ghost use Rattle.std.proofs.Common.{inl, refl};
-    ghost use Rattle.metric_kit_commands.specs.Pages.{IsPage as IsPageOf, page_text as page_text_of};
-    ghost use Rattle.metric_kit_commands.specs.Replaying.{IsAnswered as IsAnsweredRun, IsFirstFault as IsFirst, IsReplayFault as IsFault, needs_of as parts_needed, plain_options as options_of, replay_refused};
+    ghost use Rattle.std.proofs.Common.{inl};
+    ghost use Rattle.metric_kit_commands.specs.PageLaws.{last_is_page};
+    ghost use Rattle.metric_kit_commands.specs.Pages.{IsPage as IsPageOf, IsPageRun as IsRunOf, page_of_last as text_of_last};
+    ghost use Rattle.metric_kit_commands.specs.Replaying.{IsFirstFault as IsFirst, IsReplayFault as IsFault, needs_of as parts_needed, plain_options as options_of, replay_refused};
 
     type Answer = PageRun;
 
     ghost needed = { λ c. parts_needed (options_of c.trial) };
 
-    ghost is_answer = { λ c read run.
-        IsAnsweredRun (options_of c.trial) read run.core.plan run.replies.items };
+    ghost is_answer = { λ c read run. IsRunOf (options_of c.trial) c.form.now.reader read
+        run.core.plan run.batches.last.items };
 
     ghost is_fault = { λ c. IsFault (options_of c.trial) };
 
@@ -209,28 +223,36 @@ impl<E: Encoding> Command for PageReplay<'_, E> {
 
     ghost is_first_fault = { λ c. IsFirst (options_of c.trial) };
 
-    ghost text = { λ c run. page_text_of (E.text c.form.now.encoding.now) c.form.now.reader
-        c.form.now.head.now c.form.now.tail.now run.core.plan run.replies.items };
+    ghost text = { λ c _ run. text_of_last (E.text c.form.now.encoding.now)
+        c.form.now.head.now c.form.now.tail.now run.core.plan run.batches.last.items };
 
     fn needed_parts(&self) -> Needs {
         plain_options(self.trial).needs()
     }
 
     fn answer(&self, alloc: Global, parts: &Parts<'_>) -> Result<PageRun, KitFault> {
-        page_run(alloc, plain_options(self.trial), parts)
+        page_run(alloc, plain_options(self.trial), self.form.reader, parts)
     }
 
     #[tactic(auto, using(metric_io::specs::Prefix::prefixes))]
-    fn write<W: Sink>(&self, alloc: Global, sink: &mut W, run: PageRun) -> Result<(), KitFault> {
-        let text = page_of(alloc, self.form, run.core.plan(), &run.replies)?;
+    fn write<W: Sink>(
+        &self,
+        alloc: Global,
+        sink: &mut W,
+        _parts: &Parts<'_>,
+        run: PageRun,
+    ) -> Result<(), KitFault> {
+        let text = page_of(alloc, self.form, run.core.plan(), &run.batches.last)?;
         write_text(sink, &text)
     }
 
-    ghost answered = { λ _ _ run known. record {
+    ghost answered = { λ c _ run known. record {
       plan = run.core.plan;
-      replies = run.replies.items;
-      answered = known;
-      written = refl;
+      replies = known.replies;
+      answered = known.answered;
+      written = last_is_page (E.text c.form.now.encoding.now) c.form.now.reader
+          c.form.now.head.now c.form.now.tail.now run.core.plan known.replies
+          run.batches.last.items known.are_last;
     } };
 
     ghost refused = { λ c. replay_refused (options_of c.trial) };

@@ -1,5 +1,5 @@
 //! Events run in pieces, of which each is written before the next is run.
-ghost use Rattle.std.specs.Prelude.{◌≡◌, ◌<◌, ◌≤◌, [], length, IfErr, IfOk, OnOk};
+ghost use Rattle.std.specs.Prelude.{◌≡◌, [], IfErr, IfOk, OnOk};
 ghost use Rattle.std.specs.List.{list_any};
 ghost use Rattle.std.specs.Io.KnownBytes.{Appends};
 ghost use Rattle.metric_io.specs.Prefix.{AppendsPrefix};
@@ -17,24 +17,8 @@ use metric_contents::Refusal;
 use metric_core::Core;
 use metric_history::{Book, Event, Reply};
 use metric_io::Sink;
+use metric_script::EventLines;
 use std::alloc::Global;
-
-// So many replies are held at once, and one batch at most: a batch may be as large as the rest of the memory.
-const MOST_AT_ONCE: usize = 1024;
-
-// How many of the events make the next piece: those up to the first collection.
-fn piece_len(events: &[Event]) -> usize
-    requires { 0 < length events.now }
-    ensures some { 0 < result }
-    ensures within { result ≤ length events.now }
-{
-    for (index, event) in events.iter().enumerate() {
-        if index + 1 == MOST_AT_ONCE || matches!(event, Event::Collect { .. }) {
-            return index + 1;
-        }
-    }
-    events.len()
-}
 
 /// Whether some reply is out of memory.
 pub(crate) fn has_want_of_memory(replies: &[Reply]) -> bool
@@ -100,27 +84,29 @@ fn write_piece<B: Book, F: ReplyForm, W: Sink>(
 }
 
 /// Runs events on a core that has run nothing, and writes each reply in order, in a form. The replies to the first
-/// events are written before later ones are run, so that memory holds one batch at a time.
+/// events are written before later ones are read and run, so that memory holds one batch at a time.
 pub(crate) fn write_run<B: Book, F: ReplyForm, W: Sink>(
     alloc: Global,
     sink: &mut W,
     form: &F,
     core: &mut Core<B>,
-    events: &[Event],
+    events: EventLines<'_>,
 ) -> Result<(), KitFault>
     requires { CoreStands B.stands core.old [] }
     ensures ok { OnOk result (Appends (W.contents sink.old) (W.contents sink.new)
-        (due_text (F.text form.now) core.old.plan core.old.start [] events.now)) }
+        (due_text (F.text form.now) core.old.plan core.old.start [] events.entry)) }
     ensures prefix { AppendsPrefix (W.contents sink.old) (W.contents sink.new)
-        (due_text (F.text form.now) core.old.plan core.old.start [] events.now) }
+        (due_text (F.text form.now) core.old.plan core.old.start [] events.entry) }
     ensures broken { IfErr result (IsSinkFault (W.failures sink.old) (W.failures sink.new)) }
     ensures counted { OnOk result (W.failures sink.new ≡ W.failures sink.old) }
 {
     let mut rest = events;
-    while !rest.is_empty() {
-        let (piece, later) = rest.split_at(piece_len(rest));
-        write_piece(alloc, sink, form, core, piece)?;
+    loop {
+        let (piece, later) = rest.split(alloc)?;
+        if piece.is_empty() {
+            return Ok(());
+        }
+        write_piece(alloc, sink, form, core, piece.as_slice())?;
         rest = later;
     }
-    Ok(())
 }

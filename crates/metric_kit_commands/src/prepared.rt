@@ -1,29 +1,27 @@
 //! What an input's parts declare, made ready to be run.
 ghost use Rattle.std.specs.Prelude.{◌≡◌, [], false, IfErr, IfOk, IsSome};
 ghost use Rattle.metric_kit_commands.specs.Faults.{IsOfInput};
-ghost use Rattle.metric_kit_commands.specs.Replaying.{IsPlanFault, IsPlanned, IsPrepared, IsReplayFault};
+ghost use Rattle.metric_kit_commands.specs.Replaying.{HasEvents, IsPlanFault, IsPlanned, IsPrepared, IsReplayFault, script_events_of};
 ghost use Rattle.metric_core.specs.CoreStands.{CoreStands};
 
 use crate::fault::KitFault;
 use crate::options::ReplayOptions;
 use crate::planning::{certified_plan, trial_plan};
-use metric_base::Items;
 use metric_core::Core;
-use metric_history::{Book, Event};
+use metric_history::Book;
 use metric_parts::Parts;
 use metric_plan::Plan;
-use metric_script::events_of;
+use metric_script::{EventLines, events_of};
 use std::alloc::Global;
 
-/// A core that has run nothing since a start, and the events of a script for it.
+/// A core that has run nothing since the start of a script.
 #[derive(Drop)]
 pub(crate) struct PreparedRun<B: Book> {
     pub core: Core<B>,
     pub start: u64,
-    pub events: Items<Event>,
 }
 
-/// What an input's parts declare, with the events of their script.
+/// What an input's parts declare, made ready for the events of their script.
 pub(crate) fn prepared_run<B: Book>(
     alloc: Global,
     options: ReplayOptions,
@@ -32,7 +30,7 @@ pub(crate) fn prepared_run<B: Book>(
     requires certificate { options.trial ≡ false → IsSome parts.now.certificate }
     requires script { IsSome parts.now.script }
     ensures ok { IfOk result (λ run. IsPrepared options parts.now
-        run.core.plan run.core.start run.events) }
+        run.core.plan run.core.start (script_events_of parts.now)) }
     ensures fresh { IfOk result (λ run. CoreStands B.stands run.core []) }
     ensures start { IfOk result (λ run. run.core.start ≡ run.start) }
     ensures first { IfErr result (λ fault. IsReplayFault options fault parts.now) }
@@ -44,8 +42,15 @@ pub(crate) fn prepared_run<B: Book>(
     Ok(PreparedRun {
         core,
         start: script.start,
-        events: script.events,
     })
+}
+
+/// The events of the script of parts that a run was prepared for.
+pub(crate) fn event_lines<'a>(parts: &Parts<'a>) -> EventLines<'a>
+    requires { HasEvents parts.now }
+    ensures { result ≡ script_events_of parts.now }
+{
+    EventLines::of_script(parts.script.as_ref().unwrap())
 }
 
 // The plan of what the parts declare: that of a trial, or the one that their certificate shows to be safe.

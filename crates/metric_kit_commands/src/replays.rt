@@ -10,7 +10,7 @@ use crate::fault::KitFault;
 use crate::forms::{Encoded, Printed, ReplyForm};
 use crate::options::ReplayOptions;
 use crate::pieces::write_run;
-use crate::prepared::{PreparedRun, prepared_run};
+use crate::prepared::{PreparedRun, event_lines, prepared_run};
 use crate::replies::{accepted_count, write_audited};
 use metric_audit::Audited;
 use metric_core::Core;
@@ -22,12 +22,12 @@ use metric_parts::{Needs, Parts};
 use std::alloc::Global;
 
 /// Replays the script of an input against its catalogue and its config, and writes the text of each reply.
-/// The whole script is read before the first byte is written, so a refused input writes nothing. Replies are written
-/// as the events are run, and memory holds one batch at a time.
+/// The whole script is read before the first byte is written, so a refused input writes nothing. It is read once more
+/// as the events are run and their replies written, so that memory holds its text, a few events and one batch.
 ///
 /// With an audit the recordings are kept, and each instrument's journal is audited with the slips that the events make
 /// and the batches among the replies, before anything is written; a last line tells how many recordings were accepted.
-/// No audit fails. Memory holds all replies then, and a copy of the batches of one instrument.
+/// No audit fails. Memory holds all events and replies then, and a copy of the batches of one instrument.
 ///
 /// # Errors
 ///
@@ -112,7 +112,7 @@ impl<F: ReplyForm> Command for FormedReplay<'_, F> {
     ghost use Rattle.metric_core.specs.CoreStands.{CoreStands};
     ghost use Rattle.metric_marked.specs.Marks.{StandsMarked};
     ghost use Rattle.metric_kit_commands.specs.DueRuns.{is_due_run};
-    ghost use Rattle.metric_kit_commands.specs.Replaying.{IsFirstFault as IsFirst, IsFormed as IsText, IsPrepared as IsOfParts, IsReplayFault as IsFault, needs_of as parts_needed, plain_options as options_of, replay_refused};
+    ghost use Rattle.metric_kit_commands.specs.Replaying.{IsFirstFault as IsFirst, IsFormed as IsText, IsPrepared as IsOfParts, IsReplayFault as IsFault, needs_of as parts_needed, plain_options as options_of, replay_refused, script_events_of};
     ghost use Rattle.metric_kit_commands.specs.Runs.{due_replies};
     ghost use Rattle.metric_kit_commands.specs.WrittenRuns.{due_text};
 
@@ -121,7 +121,7 @@ impl<F: ReplyForm> Command for FormedReplay<'_, F> {
     ghost needed = { λ c. parts_needed (options_of c.trial) };
 
     ghost is_answer = { λ c read run.
-        IsOfParts (options_of c.trial) read run.core.plan run.core.start run.events
+        IsOfParts (options_of c.trial) read run.core.plan run.core.start (script_events_of read)
         × CoreStands StandsMarked run.core [] };
 
     ghost is_fault = { λ c. IsFault (options_of c.trial) };
@@ -130,8 +130,8 @@ impl<F: ReplyForm> Command for FormedReplay<'_, F> {
 
     ghost is_first_fault = { λ c. IsFirst (options_of c.trial) };
 
-    ghost text = { λ c run.
-        due_text (F.text c.form.now) run.core.plan run.core.start [] run.events };
+    ghost text = { λ c read run.
+        due_text (F.text c.form.now) run.core.plan run.core.start [] (script_events_of read) };
 
     fn needed_parts(&self) -> Needs {
         plain_options(self.trial).needs()
@@ -145,27 +145,24 @@ impl<F: ReplyForm> Command for FormedReplay<'_, F> {
         &self,
         alloc: Global,
         sink: &mut W,
+        parts: &Parts<'_>,
         run: PreparedRun<Marked>,
     ) -> Result<(), KitFault> {
-        let PreparedRun {
-            mut core,
-            start: _,
-            events,
-        } = run;
-        write_run(alloc, sink, self.form, &mut core, events.as_slice())
+        let PreparedRun { mut core, start: _ } = run;
+        write_run(alloc, sink, self.form, &mut core, event_lines(parts))
     }
 
-    ghost answered = { λ _ _ run known. record {
+    ghost answered = { λ _ read run known. record {
       plan = run.core.plan;
-      replies = due_replies run.core.plan.facts run.core.start [] run.events;
+      replies = due_replies run.core.plan.facts run.core.start [] (script_events_of read);
       answered = record {
         script = known.0.script;
         start = run.core.start;
-        events = run.events;
+        events = script_events_of read;
         is_planned = known.0.is_planned;
         has_script = known.0.has_script;
         is_script = known.0.is_script;
-        run = is_due_run run.core.plan run.core.start run.events;
+        run = is_due_run run.core.plan run.core.start (script_events_of read);
       };
       written = refl;
     } };
@@ -215,11 +212,8 @@ fn audited_run(
     ensures own { IfErr result IsOfInput }
 {
     let run = prepared_run(alloc, options, parts)?;
-    let PreparedRun {
-        mut core,
-        start,
-        events,
-    } = run;
+    let PreparedRun { mut core, start } = run;
+    let events = event_lines(parts).all(alloc)?;
     let replies = audited_replies(alloc, &mut core, start, events.as_slice())?;
     let accepted = accepted_count(&replies);
     Ok(AuditedRun {
@@ -248,7 +242,7 @@ impl Command for AuditedReplay {
 
     ghost is_first_fault = { λ c. IsFirst (audited_options c.trial) };
 
-    ghost text = { λ _ run.
+    ghost text = { λ _ _ run.
         replies_text run.core.plan run.replies.items ++ audited_text run.accepted };
 
     fn needed_parts(&self) -> Needs {
@@ -267,7 +261,13 @@ impl Command for AuditedReplay {
         audited_run(alloc, options, parts)
     }
 
-    fn write<W: Sink>(&self, alloc: Global, sink: &mut W, run: AuditedRun) -> Result<(), KitFault> {
+    fn write<W: Sink>(
+        &self,
+        alloc: Global,
+        sink: &mut W,
+        _parts: &Parts<'_>,
+        run: AuditedRun,
+    ) -> Result<(), KitFault> {
         write_audited(alloc, sink, run.core.plan(), &run.replies, run.accepted)
     }
 

@@ -58,7 +58,7 @@ impl Command for Show {
 
     ghost is_first_fault = { λ _. IsFirst };
 
-    ghost text = { λ _ l.
+    ghost text = { λ _ _ l.
         text_of l.declared.catalogue l.declared.config l.streams.list l.streams.warnings };
 
     fn needed_parts(&self) -> Needs {
@@ -76,6 +76,7 @@ impl Command for Show {
         &self,
         alloc: Global,
         sink: &mut W,
+        _parts: &Parts<'_>,
         listing: Listing,
     ) -> Result<(), KitFault> {
         write_lines(alloc, sink, &listing)

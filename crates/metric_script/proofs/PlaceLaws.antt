@@ -1,5 +1,5 @@
 -- The lines of a script, place by place.
-use Rattle.std.proofs.Common.{◌≡◌, ℕ, ◌+◌, ◌<◌, ◌≤◌, true, false, List, [], ◌∷◌, ◌++◌, length, drop, get_or, Option, None, Some, Result, Ok, Err, refl, sym, ap, subst, ◌∙◌, append_assoc, append-nil, arith}
+use Rattle.std.proofs.Common.{◌≡◌, ℕ, ◌+◌, ◌<◌, ◌≤◌, Bool, true, false, ◌||◌, is_some, IsOk, IsTrue, List, [], ◌∷◌, ◌++◌, length, drop, get_or, Option, None, Some, Result, Ok, Err, refl, sym, ap, subst, ◌∙◌, append_assoc, append-nil, arith}
 use Rattle.std.specs.Borrow.{Bor}
 use Rattle.std.proofs.lemmas.List.{drop_more, at_drop_all}
 use Rattle.metric_history.specs.declared.event.Event.{Event}
@@ -11,7 +11,8 @@ use Rattle.metric_script.specs.declared.stop.Stop.{Stop}
 use Rattle.metric_script.specs.declared.stop.Stop.TheVariants.{At}
 use Rattle.metric_script.specs.Scripts.{is_passed_over}
 use Rattle.metric_script.specs.Reading.{event_in, start_in}
-use Rattle.metric_script.specs.Stops.{TellsLines, stop_of, begun_by, begun_in, after_events, with_event, events_in}
+use Rattle.metric_script.specs.Events.{after_events, events_in, is_line_of_event, read_events, with_event}
+use Rattle.metric_script.specs.Stops.{TellsLines, stop_of, begun_by, begun_in}
 use Rattle.metric_script.proofs.ScriptLaws.{Lines, events_in-passed, events_in-read, begun_in-passed, begun_in-read}
 
 abbrev Slices : Type 0
@@ -105,3 +106,68 @@ pub events_end : (lines : Slices) (i : ℕ) (before : List Event) (all : Result 
 unfolding events_in
 events_end lines i before all end so_far =
     sym so_far ∙ at_drop_all (λ ls. after_events before (events_in (texts ls))) lines i end ∙ ap (λ es. Ok es) (append-nil before)
+
+-- The lines before a place spell some events, and with those of the lines from it on they are all.
+pub record SomeBefore (lines : Slices) (i : ℕ) (all : Result (List Event) Lines) : Type 0 where
+  pub before : List Event
+  pub so_far : after_events before (events_in (texts (drop i lines))) ≡ all
+
+after_none : (read : Result (List Event) Lines) → after_events [] read ≡ read
+after_none (Ok events) = refl
+after_none (Err rest) = refl
+
+pub none_before : (lines : Slices) → SomeBefore lines 0 (events_in (texts lines))
+none_before lines = record { before = []; so_far = after_none (events_in (texts lines)) }
+
+-- a line that is passed over, or one that spells an event
+line_is : {P : Type 0} (line : List ℕ) (passed : Bool) (event : Option Event) → is_passed_over line ≡ passed → event_in line ≡ event → IsTrue (passed || is_some event)
+    → (is_passed_over line ≡ true → P) → ((e : Event) → is_passed_over line ≡ false → event_in line ≡ Some e → P) → P
+line_is line true event passed found known over spells = over passed
+line_is line false (Some e) passed found known over spells = spells e passed found
+line_is line false None passed found known over spells = absurd cc
+
+pub one_line_more : (lines : Slices) (i : ℕ) (d : Bor (List ℕ)) (all : Result (List Event) Lines) → i < length lines → IsTrue (is_line_of_event (get_or lines i d).now)
+    → SomeBefore lines i all → SomeBefore lines (i + 1) all
+one_line_more lines i d all below known some =
+    line_is (get_or lines i d).now _ _ refl refl known
+    (λ passed. record { before = some.before; so_far = events_passed lines i d some.before some.before all below passed refl some.so_far })
+    (λ event is_read found. record {
+      before = some.before ++ event ∷ [];
+      so_far = events_more lines i d some.before (some.before ++ event ∷ []) event all below is_read found refl some.so_far;
+    })
+
+no_line_of : {P : Type 0} (line : List ℕ) (passed : Bool) (event : Option Event) → is_passed_over line ≡ passed → event_in line ≡ event → (passed || is_some event) ≡ false
+    → (is_passed_over line ≡ false → event_in line ≡ None → P) → P
+no_line_of line true event passed found known next = absurd cc
+no_line_of line false (Some e) passed found known next = absurd cc
+no_line_of line false None passed found known next = next passed found
+
+pub bad_line : (lines rest : Slices) (i : ℕ) (d : Bor (List ℕ)) (all : Result (List Event) Lines) → i < length lines → is_line_of_event (get_or lines i d).now ≡ false → rest ≡ drop i lines
+    → SomeBefore lines i all → all ≡ Err (texts rest)
+bad_line lines rest i d all below bad is some =
+    no_line_of (get_or lines i d).now _ _ refl refl bad
+    (λ is_read none. events_bad lines rest i d some.before all below is_read none is some.so_far)
+
+-- Some events first, and then those of the lines that are left.
+
+pub rest_is_read : (first : List Event) (read all : Result (List Event) Lines) → after_events first read ≡ all → IsOk all → IsOk read
+rest_is_read first (Ok events) all same ok = refl
+rest_is_read first (Err rest) all same ok = subst IsOk (sym same) ok
+
+pub parts_are_all : (first : List Event) (read all : Result (List Event) Lines) → after_events first read ≡ all → IsOk all → read_events all ≡ first ++ read_events read
+parts_are_all first (Ok events) all same ok = ap read_events (sym same)
+parts_are_all first (Err rest) all same ok = absurd (let failed : IsOk (after_events first (Err rest)) = subst IsOk (sym same) ok in cc)
+
+pub no_line : (rest : Slices) → length rest ≡ 0 → events_in (texts rest) ≡ Ok []
+unfolding events_in
+no_line [] none = refl
+no_line (line ∷ rest) none = absurd cc
+
+pub all_taken : (first : List Event) (rest : Slices) (all : Result (List Event) Lines) → after_events first (events_in (texts rest)) ≡ all → IsOk all → length rest ≡ 0
+    → first ≡ read_events all
+all_taken first rest all same ok none =
+    sym (parts_are_all first (events_in (texts rest)) all same ok ∙ ap (λ r. first ++ read_events r) (no_line rest none) ∙ append-nil first)
+
+pub none_taken : (first : List Event) (rest : Slices) (all : Result (List Event) Lines) → after_events first (events_in (texts rest)) ≡ all → IsOk all
+    → (length first ≡ 0 → length rest ≡ 0) → first ≡ [] → read_events all ≡ []
+none_taken first rest all same ok left none = sym (all_taken first rest all same ok (left (ap length none))) ∙ none

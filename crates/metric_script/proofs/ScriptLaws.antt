@@ -13,7 +13,8 @@ use Rattle.metric_script.specs.declared.events.ScriptEvents.{ScriptEvents}
 use Rattle.metric_script.specs.Spelling.{start_text, event_text, FitsEvent}
 use Rattle.metric_script.specs.Scripts.{is_passed_over, read_lines, IsScript, IsSomeScript, IsFirstFault}
 use Rattle.metric_script.specs.Reading.{event_in, start_in}
-use Rattle.metric_script.specs.Stops.{begun_by, begun_in, with_event, events_in, script_in}
+use Rattle.metric_script.specs.Events.{events_in, with_event}
+use Rattle.metric_script.specs.Stops.{begun_by, begun_in, script_in}
 use Rattle.metric_script.proofs.LineLaws.{event_in-text, event_in-some, start_in-text, start_in-some, start_is_read}
 
 abbrev pub Lines : Type 0

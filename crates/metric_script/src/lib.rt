@@ -7,6 +7,6 @@ mod line;
 mod reading;
 mod stop;
 
-pub use events::ScriptEvents;
+pub use events::{EventLines, ScriptEvents};
 pub use laws::one_script;
 pub use reading::events_of;

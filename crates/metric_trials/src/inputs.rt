@@ -58,7 +58,7 @@ impl Input {
         let lines = lines(alloc, text.as_bytes())?;
         let parts = parts_of(alloc, &lines, NEEDS)?;
         let events = match &parts.script {
-            Some(script) => events_of(alloc, script)?.events.into_vec(),
+            Some(script) => events_of(alloc, script)?.events.all(alloc)?.into_vec(),
             None => Vec::new(alloc),
         };
         let catalogue = Text::new(alloc, parts.catalogue.as_str())?;

@@ -4,12 +4,13 @@ use crate::page::Page;
 use crate::samples::{BOTH, CODES, HITS, MAIN, PAIRS, SPARED};
 use crate::seats::{BookSeats, seats_in_lanes};
 use metric_audit::Audited;
+use metric_base::Items;
 use metric_core::Core;
-use metric_history::Book;
+use metric_history::{Book, Event};
 use metric_journal::JournalBook;
 use metric_marked::Marked;
 use metric_parts::{Needs, parts_of};
-use metric_script::{ScriptEvents, events_of};
+use metric_script::events_of;
 use metric_sdk::certified_plan;
 use metric_text::lines;
 use std::alloc::Global;
@@ -21,16 +22,27 @@ const SCRIPT: Needs = Needs {
     script: true,
 };
 
-/// The events of an input whose only part with lines is the script.
-pub(crate) fn script_of<R: Abort>(rt: &R, alloc: Global, input: &str) -> ScriptEvents {
+/// The start of a script, and its events.
+#[derive(Drop)]
+pub(crate) struct Script {
+    pub start: u64,
+    pub events: Items<Event>,
+}
+
+/// The script of an input whose only part with lines it is.
+pub(crate) fn script_of<R: Abort>(rt: &R, alloc: Global, input: &str) -> Script {
     let lines = lines(alloc, input.as_bytes()).or_fail(rt);
     script_in(rt, alloc, &lines)
 }
 
-fn script_in<R: Abort>(rt: &R, alloc: Global, lines: &[&[u8]]) -> ScriptEvents {
+fn script_in<R: Abort>(rt: &R, alloc: Global, lines: &[&[u8]]) -> Script {
     let parts = parts_of(alloc, lines, SCRIPT).or_fail(rt);
     let script = parts.script.as_ref().expect(rt, "no script");
-    events_of(alloc, script).or_fail(rt)
+    let read = events_of(alloc, script).or_fail(rt);
+    Script {
+        start: read.start,
+        events: read.events.all(alloc).or_fail(rt),
+    }
 }
 
 /// Writes a line for the reply of a core to each event.
@@ -38,7 +50,7 @@ pub(crate) fn tell_core<R: Abort, B: Book>(
     page: &mut Page<'_, R>,
     catalogue: &str,
     config: &str,
-    script: &ScriptEvents,
+    script: &Script,
 ) {
     let plan = certified_plan(page.alloc, catalogue, config).or_fail(page.rt);
     let Ok(mut core) = Core::<B>::new(page.alloc, plan, script.start) else {
@@ -55,7 +67,7 @@ pub(crate) fn tell_seats<R: Abort + Wait, B: Book>(
     page: &mut Page<'_, R>,
     catalogue: &str,
     config: &str,
-    script: &ScriptEvents,
+    script: &Script,
     lanes: u32,
 ) {
     let (rt, alloc, start) = (page.rt, page.alloc, script.start);

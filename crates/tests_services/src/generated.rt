@@ -1,12 +1,11 @@
 //! Scripts that numbers put together of lines, answered by the seats over each book as by a core.
-use crate::agreement::{script_of, tell_core, tell_seats};
+use crate::agreement::{Script, script_of, tell_core, tell_seats};
 use crate::asserted::{OrFail, assert_equal};
 use crate::page::Page;
 use metric_audit::Audited;
 use metric_history::Book;
 use metric_journal::JournalBook;
 use metric_marked::Marked;
-use metric_script::ScriptEvents;
 use std::alloc::Global;
 use std::process::Abort;
 use std::sync::Wait;
@@ -96,7 +95,7 @@ fn input_of<R: Abort>(rt: &R, alloc: Global, number: u64) -> String {
 fn is_answered<R: Abort + Wait, B: Book>(
     rt: &R,
     alloc: Global,
-    script: &ScriptEvents,
+    script: &Script,
     wanted: &str,
 ) -> [bool; 3] {
     let mut core = Page::new(rt, alloc);

@@ -9,9 +9,12 @@ use metric_command_lines::{Form, Request};
 use metric_contents::Refusal;
 use metric_history::Reply;
 use metric_io::Sink;
-use metric_kit_commands::{KitFault, replies_of};
+use metric_kit_commands::{KitFault, Tally, tally_replies};
 use metric_parts::Parts;
 use std::alloc::{AllocError, Global};
+
+// How many reasons `Refusal::ALL` has.
+const REASONS: usize = 15;
 
 /// Tells how many events of the script of a replay are refused, and for what, where its form has batches alone. The
 /// replay is done whatever becomes of the telling.
@@ -26,65 +29,89 @@ pub(crate) fn tell_refused<E: Sink>(
     if request.options.form == Form::Replies {
         return;
     }
-    let trial = is_trial(parts);
-    let _told = match replies_of(alloc, trial, parts) {
-        Ok(replies) => print_refused(alloc, &request.files.script, &replies, errors),
+    let mut refusals = Refusals {
+        events: 0,
+        counts: [0; REASONS],
+    };
+    let _told = match tally_replies(alloc, is_trial(parts), parts, &mut refusals) {
+        Ok(()) => print_refused(alloc, &request.files.script, &refusals, errors),
         Err(_) => print(errors, "out of memory\n"),
     };
+}
+
+// How many events there are, and how many are refused for each reason, in the order of `Refusal::ALL`.
+#[derive(Drop)]
+struct Refusals {
+    events: u64,
+    counts: [u64; REASONS],
+}
+
+impl Tally for Refusals {
+    ghost tells = { λ _ _ _. Unit {0} };
+
+    fn add(&mut self, replies: Vec<Reply>) -> Result<(), AllocError> {
+        for reply in &replies {
+            self.events = self.events.saturating_add(1);
+            if let Reply::Refused(refusal) = reply {
+                self.count(*refusal);
+            }
+        }
+        Ok(())
+    }
+}
+
+impl Refusals {
+    fn count(&mut self, refusal: Refusal) {
+        for place in 0..REASONS {
+            if Refusal::ALL[place] == refusal {
+                self.counts[place] = self.counts[place].saturating_add(1);
+            }
+        }
+    }
 }
 
 fn print_refused<E: Sink>(
     alloc: Global,
     path: &Option<Text>,
-    replies: &[Reply],
+    refusals: &Refusals,
     errors: &mut E,
 ) -> Result<(), KitFault> {
     let path = match path {
         Some(path) => shown(path.as_str()),
         None => "script",
     };
-    match told_refused(alloc, path, replies) {
+    match told_refused(alloc, path, refusals) {
         Ok(text) => print(errors, text.as_str()),
         Err(_) => print(errors, "out of memory\n"),
     }
 }
 
 // How many events are refused, and for what; nothing where none is.
-fn told_refused(alloc: Global, path: &str, replies: &[Reply]) -> Result<String, AllocError> {
+fn told_refused(alloc: Global, path: &str, refusals: &Refusals) -> Result<String, AllocError> {
     let mut told = String::new(alloc);
-    let refused = replies.iter().filter(|reply| is_refused(*reply)).count();
+    let refused = refusals
+        .counts
+        .iter()
+        .fold(0u64, |sum, count| sum.saturating_add(*count));
     if refused > 0 {
-        let all = replies.len();
+        let all = refusals.events;
         write!(told, "{path}: events refused: {refused} of {all}")?;
-        push_kinds(&mut told, replies)?;
+        push_kinds(&mut told, refusals)?;
     }
     Ok(told)
 }
 
-fn is_refused(reply: &Reply) -> bool {
-    matches!(reply, Reply::Refused(_))
-}
-
 // Puts the refusals that came last, in the order in which they are tried.
-fn push_kinds(told: &mut String, replies: &[Reply]) -> Result<(), AllocError> {
-    let mut before = " (";
-    for refusal in &Refusal::ALL {
-        let count = replies
-            .iter()
-            .filter(|reply| is_refused_for(*reply, *refusal))
-            .count();
+fn push_kinds(told: &mut String, refusals: &Refusals) -> Result<(), AllocError> {
+    let mut is_first = true;
+    for (place, refusal) in Refusal::ALL.iter().enumerate() {
+        let count = refusals.counts[place];
         if count > 0 {
+            let before = if is_first { " (" } else { ", " };
             let name = refusal.name();
             write!(told, "{before}{count} {name}")?;
-            before = ", ";
+            is_first = false;
         }
     }
     told.push_str(")\n")
-}
-
-fn is_refused_for(reply: &Reply, refusal: Refusal) -> bool {
-    match reply {
-        Reply::Refused(found) => *found == refusal,
-        _ => false,
-    }
 }

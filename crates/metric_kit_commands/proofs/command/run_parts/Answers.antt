@@ -11,6 +11,6 @@ returns-in_err-answer g c =
 
 pub returns : goal.returns
 returns g c =
-    answered _ _ _ _ c.write_answer.result [] [] (g.C.Command.text c.args.command.now c.in_ok-answer.answer) refl refl
+    answered _ _ _ _ c.write_answer.result [] [] (g.C.Command.text c.args.command.now c.args.parts.now c.in_ok-answer.answer) refl refl
     (g.met.C.Command.answered c.args.command.now c.args.parts.now c.in_ok-answer.answer c.in_ok-answer.ensures.ok)
     c.write_answer.ensures.ok c.write_answer.ensures.prefix c.write_answer.ensures.broken (omega arith)

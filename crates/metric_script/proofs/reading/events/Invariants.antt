@@ -1,8 +1,8 @@
--- the events so far and those that are left are all
-use Rattle.std.proofs.Common.{◌≡◌, drop}
+-- the lines before are passed over or spell events
 use Rattle.metric_parts.specs.Reading.{texts}
-use Rattle.metric_script.specs.Stops.{after_events, events_in}
+use Rattle.metric_script.specs.Events.{events_in}
+use Rattle.metric_script.proofs.PlaceLaws.{SomeBefore}
 use Rattle.metric_script.proofs.reading.events.Given as goal
 
 abbrev pub invariant-loop-place : goal.invariant-loop-place
-invariant-loop-place l = after_events l.events (events_in (texts (drop l.place l.lines))) ≡ events_in (texts l.fn.lines)
+invariant-loop-place l = SomeBefore l.fn.lines l.place (events_in (texts l.fn.lines))
