@@ -7,8 +7,8 @@ use Rattle.std.specs.Result.{result_unwrap_or}
 use Rattle.std.specs.Str.{bytes_eq}
 use Rattle.clap.specs.Words.{Row, Text, all_of, first_of}
 use Rattle.metric_base.specs.Steps.{◌>>=◌, require}
-use Rattle.metric_advice.specs.Kinds.{is_kind}
-use Rattle.metric_changes.specs.Kinds.{is_change}
+use Rattle.metric_lint.specs.Kinds.{is_kind}
+use Rattle.metric_diff.specs.Kinds.{is_change}
 use Rattle.metric_contents.specs.declared.attributes.OwnedAttr.{OwnedAttr}
 use Rattle.metric_command_lines.specs.Attributes.{resource_in}
 use Rattle.metric_command_lines.specs.Numbers.{number_in}

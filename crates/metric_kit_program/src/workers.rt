@@ -18,7 +18,7 @@ const LAST: u64 = 8;
 
 // What a thread has: the seat with which it records, or that with which it collects.
 #[derive(Drop)]
-enum Seat {
+enum Job {
     Recorder(Recorder),
     Collector(Collector),
 }
@@ -50,48 +50,48 @@ pub(crate) fn work<R: Threads + Wait + Sync, B: Book + Send + Sync>(
     recorders: Vec<Recorder>,
     collectors: Vec<Collector>,
 ) -> Result<Worked, AllocError> {
-    let seats = all_seats(alloc, recorders, collectors)?;
+    let jobs = all_jobs(alloc, recorders, collectors)?;
     thread::scope(thread::scope_env(), rt, |scope| {
         let mut threads = Vec::new(alloc);
-        for seat in seats {
-            let used = move || use_seat(rt, alloc, provider, options, seat);
+        for job in jobs {
+            let used = move || do_job(rt, alloc, provider, options, job);
             threads.push(scope.spawn(used)?)?;
         }
         all_worked(rt, alloc, threads)
     })
 }
 
-fn all_seats(
+fn all_jobs(
     alloc: Global,
     recorders: Vec<Recorder>,
     collectors: Vec<Collector>,
-) -> Result<Vec<Seat>, AllocError> {
-    let mut seats = Vec::new(alloc);
+) -> Result<Vec<Job>, AllocError> {
+    let mut jobs = Vec::new(alloc);
     for recorder in recorders {
-        seats.push(Seat::Recorder(recorder))?;
+        jobs.push(Job::Recorder(recorder))?;
     }
-    add_collectors(seats, collectors)
+    add_collectors(jobs, collectors)
 }
 
-fn add_collectors(seats: Vec<Seat>, collectors: Vec<Collector>) -> Result<Vec<Seat>, AllocError> {
-    let mut seats = seats;
+fn add_collectors(jobs: Vec<Job>, collectors: Vec<Collector>) -> Result<Vec<Job>, AllocError> {
+    let mut jobs = jobs;
     for collector in collectors {
-        seats.push(Seat::Collector(collector))?;
+        jobs.push(Job::Collector(collector))?;
     }
-    Ok(seats)
+    Ok(jobs)
 }
 
-// Does what a seat is for.
-fn use_seat<R: Wait, B: Book>(
+// Does what a job is for.
+fn do_job<R: Wait, B: Book>(
     rt: &R,
     alloc: Global,
     provider: &Shared<B>,
     options: ThreadsOptions,
-    seat: Seat,
+    job: Job,
 ) -> Result<Done, AllocError> {
-    match seat {
-        Seat::Recorder(recorder) => record_all(rt, alloc, provider, options, recorder),
-        Seat::Collector(collector) => collect_all(rt, alloc, provider, collector),
+    match job {
+        Job::Recorder(recorder) => record_all(rt, alloc, provider, options, recorder),
+        Job::Collector(collector) => collect_all(rt, alloc, provider, collector),
     }
 }
 

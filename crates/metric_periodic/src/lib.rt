@@ -7,6 +7,7 @@
 #![tactic(auto)]
 
 mod clock_ticker;
+mod collect;
 mod collecting;
 mod counts;
 mod driving;
@@ -19,7 +20,6 @@ mod outlet;
 mod outlets;
 mod periodic;
 mod reading;
-mod seat;
 mod showing;
 mod shown;
 mod stop_flag;

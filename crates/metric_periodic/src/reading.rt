@@ -7,9 +7,9 @@ ghost use Rattle.metric_periodic.specs.Runs.{IsRun, ReadsAll};
 ghost use Rattle.metric_periodic.specs.Ticks.{is_woken};
 ghost use Rattle.metric_periodic.specs.Turns.{IsCollectedAt, MakesTurns, stop_of, progress};
 
+use crate::collect::Collect;
 use crate::counts::Listener;
 use crate::exports::Exports;
-use crate::seat::Seat;
 use crate::tick::{StopCause, Tick, Ticker};
 use metric_export::MetricExporter;
 use metric_history::Batch;
@@ -33,7 +33,7 @@ pub(crate) struct Ended<C, E> {
 }
 
 /// Reads to the end, as [`read_all`] says, and shuts the exporter down.
-pub(crate) fn read_to_end<R, P, C: Seat<R, P>, E: MetricExporter, T: Ticker<R>, L: Listener>(
+pub(crate) fn read_to_end<R, P, C: Collect<R, P>, E: MetricExporter, T: Ticker<R>, L: Listener>(
     rt: &R,
     alloc: Global,
     plan: &Plan,
@@ -72,7 +72,7 @@ pub(crate) fn read_to_end<R, P, C: Seat<R, P>, E: MetricExporter, T: Ticker<R>, 
 /// Collects at each tick, hands on what was collected, as [`collect_and_export`] says, and flushes the exporter, until
 /// the ticker stops or was asked so many times; then collects once more, at the moment of the last tick, 0 where there
 /// was none; and lets the exporter try once more what it keeps.
-fn read_all<R, P, C: Seat<R, P>, E: MetricExporter, T: Ticker<R>, L: Listener>(
+fn read_all<R, P, C: Collect<R, P>, E: MetricExporter, T: Ticker<R>, L: Listener>(
     rt: &R,
     alloc: Global,
     plan: &Plan,
@@ -117,7 +117,7 @@ fn stop_of(last: Tick) -> Option<StopCause>
 }
 
 // Makes the turns. The last tick: a stop, or that of the last turn, at 0 where there was none.
-fn make_turns<R, P, C: Seat<R, P>, E: MetricExporter, T: Ticker<R>, L: Listener>(
+fn make_turns<R, P, C: Collect<R, P>, E: MetricExporter, T: Ticker<R>, L: Listener>(
     rt: &R,
     alloc: Global,
     plan: &Plan,
@@ -149,7 +149,7 @@ fn make_turns<R, P, C: Seat<R, P>, E: MetricExporter, T: Ticker<R>, L: Listener>
 
 // Collects at the moment of a tick, hands on what was collected, lets the exporter try again what it keeps where the
 // tick was asked for or nothing was handed on, and flushes it.
-fn collect_and_export<R, P, C: Seat<R, P>, E: MetricExporter, L: Listener>(
+fn collect_and_export<R, P, C: Collect<R, P>, E: MetricExporter, L: Listener>(
     rt: &R,
     alloc: Global,
     plan: &Plan,

@@ -1,6 +1,6 @@
 //! What a person is told of a fault: the table, the field and the entry, and the cause in words.
 use crate::fault::{ShortDefect, ShortFault, ShortField, ShortPlace, ShortSpot};
-use metric_near::nearest;
+use metric_suggest::nearest;
 use std::alloc::{AllocError, Global};
 use toml::{Table, Value};
 

@@ -1,8 +1,8 @@
 //! What a host is told of a refusal, and of tables that do not stand in a text.
 use crate::asserted::{OrFail, assert_equal};
-use metric_advice::{explain_refusal, locate_in_catalogue, locate_in_config};
 use metric_catalogue::{Catalogue, CatalogueFault, CataloguePlace};
 use metric_contents::Attr;
+use metric_lint::{explain_refusal, locate_in_catalogue, locate_in_config};
 use metric_names::ValueRef;
 use metric_views::ConfigPlace;
 use std::alloc::{AllocError, Global};

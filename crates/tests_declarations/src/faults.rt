@@ -1,10 +1,10 @@
 //! The printed texts of faults, refusals and remarks that no program prints as they are.
 use crate::asserted::{OrFail, assert_equal};
-use metric_advice::{KeyList, Limit, Remark};
 use metric_catalogue::CatalogueFault;
 use metric_contents::{Kind, Refusal};
 use metric_exposure::ExposureFault;
 use metric_glob::PatternFault;
+use metric_lint::{KeyList, Limit, Remark};
 use metric_names::{NameFault, UnitFault};
 use metric_parts::InputFault;
 use metric_views::ViewFault;

@@ -3,7 +3,7 @@
 use crate::asserted::{OrFail, assert_equal};
 use metric_catalogue::{Catalogue, CatalogueFault};
 use metric_check::{CheckFault, ClaimFault, ClaimPlace};
-use metric_diagnosis::{NamedText, diagnose_catalogue, diagnose_check};
+use metric_messages::{NamedText, diagnose_catalogue, diagnose_check};
 use std::alloc::Global;
 
 // Promises nothing of the text, so that no test is proved by its parts.

@@ -2,8 +2,8 @@
 use Rattle.std.proofs.Common.{◌≡◌, ℕ, List, [], ◌∷◌, ◌++◌, ◌+◌, ◌<◌, append-nil, append_assoc, get_or, length, take, sym, ap, subst, ◌∙◌}
 use Rattle.std.specs.List.{AllZip, concat}
 use Rattle.std.proofs.lemmas.List.{take_more}
-use Rattle.metric_advice.specs.declared.remark.Remark.{Remark}
-use Rattle.metric_diagnosis.specs.declared.sources.Pair.{Pair}
+use Rattle.metric_lint.specs.declared.remark.Remark.{Remark}
+use Rattle.metric_messages.specs.declared.sources.Pair.{Pair}
 use Rattle.wormweekly_c.specs.Linting.{IsRemarkLine, PushesLine, PushesLines}
 
 all_more : {A B : Type 0} (R : A → B → Type 0) (xs : List A) (x : A) (ys : List B) (y : B) → AllZip R xs ys → R x y → AllZip R (xs ++ x ∷ []) (ys ++ y ∷ [])

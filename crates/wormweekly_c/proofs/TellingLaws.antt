@@ -1,7 +1,7 @@
 -- What is told of a fault of a certificate.
 use Rattle.std.proofs.Common.{◌≡◌, ℕ, List, Option, Result, Ok, Err}
 use Rattle.std.specs.Prelude.{IfOk, codes}
-use Rattle.metric_advice.specs.declared.position.Position.{Position}
+use Rattle.metric_lint.specs.declared.position.Position.{Position}
 use Rattle.wormweekly_c.specs.Telling.{Tells, told_at}
 
 -- a call that did not fail

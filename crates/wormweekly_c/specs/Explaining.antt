@@ -1,7 +1,7 @@
 -- What a host is told of a recording that is refused for what it says.
 use Rattle.std.specs.Prelude.{◌≡◌, ◌⊎◌, ℕ, ℤ, List, [], ◌++◌, codes, Option, Some, None}
 use Rattle.metric_text.specs.Lists.{numbered}
-use Rattle.metric_advice.specs.Explanations.{Told, explained, On, UnknownInstrument}
+use Rattle.metric_lint.specs.Explanations.{Told, explained, On, UnknownInstrument}
 use Rattle.metric_contents.specs.Encoding.{Given}
 use Rattle.metric_plan.specs.Plans.{PlanValue}
 use Rattle.wormweekly_c.specs.Texts.{AnswersText}

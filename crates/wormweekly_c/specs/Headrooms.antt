@@ -3,11 +3,11 @@ use Rattle.std.specs.Prelude.{◌≡◌, ◌-◌, ◌^◌, ℕ, List, map, min}
 use Rattle.std.specs.List.{AllZip}
 use Rattle.metric_resolve.specs.Applying.{all_instruments}
 use Rattle.metric_resolve.specs.Resolved.{streams_of}
-use Rattle.metric_advice.specs.Headrooms.{IsHeadroom}
-use Rattle.metric_advice.specs.declared.headroom.Headroom.{Headroom}
-use Rattle.metric_advice.specs.declared.limit.Limit.{Limit}
-use Rattle.metric_advice.specs.declared.limit.Limit.TheVariants.{Count, Amount, SumLow, SumHigh}
-use Rattle.metric_advice.specs.declared.limit.Limit.TheVariants.{Series}
+use Rattle.metric_lint.specs.Headrooms.{IsHeadroom}
+use Rattle.metric_lint.specs.declared.headroom.Headroom.{Headroom}
+use Rattle.metric_lint.specs.declared.limit.Limit.{Limit}
+use Rattle.metric_lint.specs.declared.limit.Limit.TheVariants.{Count, Amount, SumLow, SumHigh}
+use Rattle.metric_lint.specs.declared.limit.Limit.TheVariants.{Series}
 use Rattle.metric_plan.specs.Plans.{PlanValue}
 use Rattle.wormweekly_c.specs.Texts.{AnswersAll}
 use Rattle.wormweekly_c.specs.declared.headrooms.HeadroomOut.{HeadroomOut}

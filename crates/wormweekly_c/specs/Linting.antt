@@ -4,11 +4,11 @@ use Rattle.std.specs.Prelude.{min, nat_le, take, Option}
 use Rattle.std.specs.List.{AllZip, concat}
 use Rattle.std.specs.Str.{is_utf8}
 use Rattle.metric_text.specs.Lists.{numbered}
-use Rattle.metric_advice.specs.Remarks.{AreRemarks}
-use Rattle.metric_advice.specs.declared.position.Position.{Position}
-use Rattle.metric_advice.specs.declared.remark.Remark.{Remark}
-use Rattle.metric_diagnosis.specs.declared.sources.Pair.{Pair}
-use Rattle.metric_diagnosis.specs.Places.{RemarkStands}
+use Rattle.metric_lint.specs.Remarks.{AreRemarks}
+use Rattle.metric_lint.specs.declared.position.Position.{Position}
+use Rattle.metric_lint.specs.declared.remark.Remark.{Remark}
+use Rattle.metric_messages.specs.declared.sources.Pair.{Pair}
+use Rattle.metric_messages.specs.Places.{RemarkStands}
 use Rattle.wormweekly_c.specs.Pairs.{IsPair}
 use Rattle.wormweekly_c.specs.Opening.{HasFault}
 use Rattle.wormweekly_c.specs.Telling.{HasFront, Tells}

@@ -1,6 +1,6 @@
 -- Texts that were read.
 use Rattle.std.specs.Prelude.{◌≡◌, ℕ, List, codes}
-use Rattle.metric_diagnosis.specs.declared.sources.Pair.{Pair}
+use Rattle.metric_messages.specs.declared.sources.Pair.{Pair}
 use Rattle.metric_setup.specs.Setups.{IsDeclared}
 
 -- The texts are this catalogue and this config, under the names by which a host is told of them.

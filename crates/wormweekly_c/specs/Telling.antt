@@ -1,10 +1,10 @@
 -- What a host is told of a fault of its texts, and of remarks on them.
 use Rattle.std.specs.Prelude.{◌≡◌, ℕ, List, [], ◌++◌, codes, Option, Some, None}
 use Rattle.metric_text.specs.Lists.{numbered}
-use Rattle.metric_advice.specs.declared.position.Position.{Position}
-use Rattle.metric_diagnosis.specs.declared.sources.Pair.{Pair}
-use Rattle.metric_diagnosis.specs.Marks.{StandsInCatalogue, StandsInConfig}
-use Rattle.metric_diagnosis.specs.Places.{PartStands}
+use Rattle.metric_lint.specs.declared.position.Position.{Position}
+use Rattle.metric_messages.specs.declared.sources.Pair.{Pair}
+use Rattle.metric_messages.specs.Marks.{StandsInCatalogue, StandsInConfig}
+use Rattle.metric_messages.specs.Places.{PartStands}
 use Rattle.metric_make.specs.declared.fault.MakeFault.{MakeFault}
 use Rattle.metric_setup.specs.declared.fault.SetupFault.{SetupFault}
 use Rattle.metric_setup.specs.declared.fault.SetupFault.TheVariants as faults

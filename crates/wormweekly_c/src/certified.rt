@@ -12,7 +12,7 @@ use crate::empty::holds_something;
 use crate::handles::Handle;
 use crate::no_plan::{NoPlan, tell};
 use crate::opening::{Counts, open_plan};
-use crate::telling::told_fault;
+use crate::telling::fault_message;
 use metric_plan::Plan;
 use metric_setup::vouched_plan;
 use std::alloc::Global;
@@ -112,7 +112,7 @@ fn plan_of(alloc: Global, catalogue: &str, config: &str, certificate: &str) -> R
 {
     match vouched_plan(alloc, catalogue, config, certificate) {
         Ok(plan) => Ok(plan),
-        Err(fault) => match told_fault(alloc, catalogue, config, certificate, fault) {
+        Err(fault) => match fault_message(alloc, catalogue, config, certificate, fault) {
             Ok(text) => Err(NoPlan::Fault(text)),
             Err(_) => Err(NoPlan::Memory),
         },

@@ -1,7 +1,7 @@
 //! What a recording is refused for.
 ghost use Rattle.std.specs.Prelude.{◌≡◌, ◌≢◌, ◌⊎◌, ◌++◌, IfOk, codes, map};
 ghost use Rattle.std.specs.Option.{option_map};
-ghost use Rattle.metric_advice.specs.Explanations.{explained, told_of};
+ghost use Rattle.metric_lint.specs.Explanations.{explained, told_of};
 ghost use Rattle.wormweekly_c.specs.Attributes.{attributes_from, looked_at};
 ghost use Rattle.wormweekly_c.specs.Codes.{WhereHeld, recorder_in};
 ghost use Rattle.wormweekly_c.specs.Explaining.{AnswersExplained, AnswersExplanation, BeginsWith, IsExplanation};
@@ -13,9 +13,9 @@ use crate::codes::{MEMORY, NO_TEXT, NOT_OPEN};
 use crate::handles::Handle;
 use crate::held::Held;
 use crate::texts::copy_text;
-use metric_advice::{Explanation, Mistake, explain_refusal};
 use metric_contents::Attr;
 use metric_hosted::HostedRecorder;
+use metric_lint::{Explanation, Mistake, explain_refusal};
 use metric_plan::Plan;
 use metric_text::{push_numbered, push_text};
 use std::alloc::{AllocError, Global};

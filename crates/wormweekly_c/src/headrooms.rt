@@ -7,7 +7,7 @@ use crate::codes::{MEMORY, NOT_OPEN};
 use crate::handles::Handle;
 use crate::held::Held;
 use crate::texts::copy_all;
-use metric_advice::{Headroom, Limit, headrooms};
+use metric_lint::{Headroom, Limit, headrooms};
 use metric_plan::Plan;
 use std::alloc::{AllocError, Global};
 

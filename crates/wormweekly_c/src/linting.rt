@@ -8,10 +8,10 @@ ghost use Rattle.wormweekly_c.specs.Refusing.{IsWhy};
 use crate::codes::{MEMORY, NO_TEXT};
 use crate::no_plan::{NoPlan, tell};
 use crate::pairs::{declared_of, pair_of};
-use crate::telling::{push_told, told_fault};
+use crate::telling::{fault_message, push_told};
 use crate::texts::copy_text;
-use metric_advice::{Remark, lint};
-use metric_diagnosis::{Pair, diagnose_remark};
+use metric_lint::{Remark, lint};
+use metric_messages::{Pair, diagnose_remark};
 use metric_text::{push_byte, push_numbered, push_text};
 use std::alloc::{AllocError, Global};
 use std::str::from_utf8;
@@ -64,7 +64,7 @@ fn remarks_of(alloc: Global, catalogue: &str, config: &str) -> Result<Vec<u8>, N
     ensures why { IfErr result (IsWhy true (HasFault catalogue.now config.now)) }
 {
     match declared_of(alloc, catalogue, config) {
-        Err(fault) => match told_fault(alloc, catalogue, config, "", fault) {
+        Err(fault) => match fault_message(alloc, catalogue, config, "", fault) {
             Ok(text) => Err(NoPlan::Fault(text)),
             Err(_) => Err(NoPlan::Memory),
         },

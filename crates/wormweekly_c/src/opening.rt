@@ -13,7 +13,7 @@ use crate::empty::holds_something;
 use crate::handles::Handle;
 use crate::held::Held;
 use crate::no_plan::{NoPlan, tell};
-use crate::telling::told_fault;
+use crate::telling::fault_message;
 use metric_base::{Copied, Shared};
 use metric_hosted::{Hosted, HostedReader, HostedRecorder, ReaderSeat, RecorderSeat, RunId};
 use metric_plan::Plan;
@@ -111,7 +111,7 @@ fn plan_of(alloc: Global, catalogue: &str, config: &str) -> Result<Plan, NoPlan>
 {
     match certified_plan(alloc, catalogue, config) {
         Ok(plan) => Ok(plan),
-        Err(fault) => match told_fault(alloc, catalogue, config, "", fault) {
+        Err(fault) => match fault_message(alloc, catalogue, config, "", fault) {
             Ok(text) => Err(NoPlan::Fault(text)),
             Err(_) => Err(NoPlan::Memory),
         },

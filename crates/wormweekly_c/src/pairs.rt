@@ -4,7 +4,7 @@ ghost use Rattle.wormweekly_c.specs.Pairs.{IsPair};
 ghost use Rattle.metric_setup.specs.Setups.{IsDeclared, IsFirstFault};
 
 use metric_catalogue::Catalogue;
-use metric_diagnosis::{NamedText, Pair};
+use metric_messages::{NamedText, Pair};
 use metric_setup::{SetupFault, catalogue_of, config_of};
 use metric_views::Config;
 use std::alloc::Global;

@@ -4,19 +4,19 @@ ghost use Rattle.std.specs.String.{string_bytes};
 ghost use Rattle.wormweekly_c.specs.Telling.{IsUnsafeAt, Tells, TellsFault, place_text, told_at};
 
 use crate::pairs::{catalogue_source, certificate_source, config_source, declared_of, pair_of};
-use metric_advice::Position;
-use metric_diagnosis::{
+use metric_lint::Position;
+use metric_make::MakeFault;
+use metric_messages::{
     Diagnosis, diagnose_catalogue, diagnose_certificate, diagnose_check, diagnose_config,
     diagnose_make,
 };
-use metric_make::MakeFault;
 use metric_setup::SetupFault;
 use metric_text::{push_numbered, push_text};
 use std::alloc::{AllocError, Global};
 
 /// The text of a fault of a catalogue, a config and, where there is one, a certificate. There is none for out of
 /// memory.
-pub(crate) fn told_fault(
+pub(crate) fn fault_message(
     alloc: Global,
     catalogue: &str,
     config: &str,
@@ -36,7 +36,7 @@ pub(crate) fn told_fault(
             let told = diagnose_config(alloc, config_source(config), fault)?;
             written(alloc, &told)
         }
-        SetupFault::Unsafe(fault) => told_unsafe(alloc, catalogue, config, fault),
+        SetupFault::Unsafe(fault) => unsafe_message(alloc, catalogue, config, fault),
         SetupFault::Certificate(fault) => {
             let told = diagnose_certificate(alloc, certificate_source(certificate), fault)?;
             written(alloc, &told)
@@ -49,7 +49,7 @@ pub(crate) fn told_fault(
     }
 }
 
-fn told_unsafe(
+fn unsafe_message(
     alloc: Global,
     catalogue: &str,
     config: &str,
@@ -59,12 +59,12 @@ fn told_unsafe(
 {
     match fault {
         MakeFault::Memory => Err(AllocError),
-        _ => told_part(alloc, catalogue, config, fault),
+        _ => part_message(alloc, catalogue, config, fault),
     }
 }
 
 // The text of a part of safety that fails. Both texts were read before, so that they fail only when out of memory.
-fn told_part(
+fn part_message(
     alloc: Global,
     catalogue: &str,
     config: &str,

@@ -2,7 +2,7 @@
 use Rattle.std.proofs.Common.{◌≡◌, ◌∙◌, ap, subst, sym, Option, Some}
 use Rattle.std.specs.Prelude.{IsSomeAnd}
 use Rattle.metric_parts.specs.declared.parts.Parts.{Parts}
-use Rattle.metric_changes.specs.Changes.{Plan, changes_of}
+use Rattle.metric_diff.specs.Changes.{Plan, changes_of}
 use Rattle.metric_kit_commands.specs.Declarations.{IsDeclaredFault}
 use Rattle.wormweekly_commands.specs.Comparing.{RefusesDiff, RefusesPair}
 use Rattle.wormweekly_commands.specs.declared.fault.ConsoleFault.{ConsoleFault}

@@ -9,10 +9,10 @@ use Rattle.metric_resolve.specs.Applying.{all_instruments}
 use Rattle.metric_resolve.specs.Resolved.{streams_of}
 use Rattle.metric_resolve.specs.Warnings.{warnings_of}
 use Rattle.metric_bounds.specs.Amounts.{total_of}
-use Rattle.metric_advice.specs.Headrooms.{IsHeadroom}
-use Rattle.metric_advice.specs.Kinds.{kind_of}
-use Rattle.metric_advice.specs.Remarks.{AreRemarks}
-use Rattle.metric_advice.specs.declared.remark.Remark.{Remark}
+use Rattle.metric_lint.specs.Headrooms.{IsHeadroom}
+use Rattle.metric_lint.specs.Kinds.{kind_of}
+use Rattle.metric_lint.specs.Remarks.{AreRemarks}
+use Rattle.metric_lint.specs.declared.remark.Remark.{Remark}
 use Rattle.metric_command_lines.specs.declared.wormweekly.request.Request.{Request}
 use Rattle.metric_command_lines.specs.declared.wormweekly.request.Task.{Task}
 use Rattle.metric_command_lines.specs.declared.wormweekly.request.Task.TheVariants.{Lint, Show, Make, Check}

@@ -4,9 +4,9 @@ use Rattle.std.specs.Prelude.{if◌then◌else◌}
 use Rattle.std.specs.List.{flat_map, list_any}
 use Rattle.metric_parts.specs.declared.parts.Parts.{Parts}
 use Rattle.metric_resolve.specs.Resolved.{streams_of}
-use Rattle.metric_changes.specs.declared.change.Change.{Change}
-use Rattle.metric_changes.specs.Changes.{Plan, changes_of, plan}
-use Rattle.metric_changes.specs.Kinds.{kind_of}
+use Rattle.metric_diff.specs.declared.change.Change.{Change}
+use Rattle.metric_diff.specs.Changes.{Plan, changes_of, plan}
+use Rattle.metric_diff.specs.Kinds.{kind_of}
 use Rattle.metric_command_lines.specs.declared.wormweekly.request.Request.{Request}
 use Rattle.metric_kit_commands.specs.Claims.{IsClaimFault}
 use Rattle.metric_kit_commands.specs.Declarations.{IsDeclaredFault}

@@ -3,10 +3,10 @@ use Rattle.std.specs.Prelude.{◌||◌, ◌&&◌, ◌==◌, ℕ, Bool, false, no
 use Rattle.std.specs.Prelude.{length, slice_index_or}
 use Rattle.std.specs.List.{enumerate_from, flat_map, list_any}
 use Rattle.std.specs.Str.{bytes_eq}
-use Rattle.metric_advice.specs.Kinds.{kind_of}
-use Rattle.metric_changes.specs.Breaking.{is_breaking}
-use Rattle.metric_changes.specs.Kinds as changes
-use Rattle.metric_changes.specs.declared.change.Change.{Change}
+use Rattle.metric_lint.specs.Kinds.{kind_of}
+use Rattle.metric_diff.specs.Breaking.{is_breaking}
+use Rattle.metric_diff.specs.Kinds as changes
+use Rattle.metric_diff.specs.declared.change.Change.{Change}
 use Rattle.wormweekly_commands.specs.declared.notes.Notes.{Notes}
 
 -- a kind is among words

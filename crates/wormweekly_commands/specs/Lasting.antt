@@ -1,7 +1,7 @@
 -- Whether the recordings of instruments last.
 use Rattle.std.specs.Prelude.{◌*◌, ℕ, Bool, List, nat_lt}
 use Rattle.std.specs.List.{list_any}
-use Rattle.metric_advice.specs.declared.headroom.Headroom.{Headroom}
+use Rattle.metric_lint.specs.declared.headroom.Headroom.{Headroom}
 use Rattle.metric_command_lines.specs.declared.wormweekly.request.Options.{Options}
 
 -- # whether the recordings of an instrument last (profile) [ends_early, some_end_early]

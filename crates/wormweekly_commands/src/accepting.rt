@@ -125,13 +125,13 @@ pub(crate) fn tell_unused<E: Sink>(
     errors: &mut E,
 ) {
     let path = path_of(files, Role::Accepted);
-    let _told = match told_unused(alloc, path, &accepted.unused) {
+    let _told = match unused_message(alloc, path, &accepted.unused) {
         Ok(text) => print(errors, text.as_str()),
         Err(_) => print(errors, "out of memory\n"),
     };
 }
 
-fn told_unused(alloc: Global, path: &str, unused: &[usize]) -> Result<String, AllocError> {
+fn unused_message(alloc: Global, path: &str, unused: &[usize]) -> Result<String, AllocError> {
     let mut told = String::new(alloc);
     for number in unused {
         write!(

@@ -3,7 +3,7 @@ use crate::change_cells::{after_cell, before_cell};
 use crate::comparing::{Claim, Comparison};
 use crate::rooms::Rooms;
 use crate::rows::{instrument_name, meter_name, reader_name};
-use metric_changes::Change;
+use metric_diff::Change;
 use metric_kit_commands::KitFault;
 use metric_sheet::{Cell, Row, Sheet};
 use metric_views::Stream;

@@ -2,7 +2,7 @@
 ghost use Rattle.std.specs.Prelude.{◌≡◌, IfErr, IfOk};
 ghost use Rattle.metric_kit_commands.specs.Claims.{IsClaimFault};
 ghost use Rattle.metric_kit_commands.specs.Declarations.{IsDeclaredFault};
-ghost use Rattle.metric_changes.specs.Changes.{plan, plan_of};
+ghost use Rattle.metric_diff.specs.Changes.{plan, plan_of};
 ghost use Rattle.wormweekly_commands.specs.Answers.{AreRooms};
 ghost use Rattle.wormweekly_commands.specs.Comparing.{IsClaim, IsCompared, IsComparison, IsOldFault, RefusesDiff, RefusesPair, diff_status};
 ghost use Rattle.wormweekly_commands.specs.Concerns.{denies_change};
@@ -16,7 +16,7 @@ use crate::parts::Texts;
 use crate::rooms::{Rooms, rooms_of};
 use crate::series::all_series;
 use metric_base::{Items, Text};
-use metric_changes::{Change, Side, changes};
+use metric_diff::{Change, Side, changes};
 use metric_kit_commands::{KitFault, certified_plan};
 use metric_parts::Parts;
 use metric_resolve::{StreamList, resolve_streams};

@@ -1,13 +1,13 @@
 //! Which remarks count.
 ghost use Rattle.std.specs.Prelude.{◌≡◌, ◌++◌, false, IfOk, OnOk, slice_index_or};
 ghost use Rattle.std.specs.List.{flat_map, list_any};
-ghost use Rattle.metric_advice.specs.Kinds.{kind_of};
+ghost use Rattle.metric_lint.specs.Kinds.{kind_of};
 ghost use Rattle.wormweekly_commands.specs.Concerns.{denies, denies_change, denies_some, names, still_open, unless_accepted, unless_named};
 
 use crate::notes::Notes;
-use metric_advice::Remark;
 use metric_base::{Items, Text};
-use metric_changes::Change;
+use metric_diff::Change;
+use metric_lint::Remark;
 use std::alloc::{AllocError, Global};
 
 /// What has a kind, by whose name it is left out or denied.
@@ -30,7 +30,7 @@ impl Kinded for Remark {
 }
 
 impl Kinded for Change {
-    ghost use Rattle.metric_changes.specs.Kinds.{kind_of as kind_of_change};
+    ghost use Rattle.metric_diff.specs.Kinds.{kind_of as kind_of_change};
 
     ghost kind = { kind_of_change };
 

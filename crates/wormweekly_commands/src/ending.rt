@@ -2,8 +2,8 @@
 ghost use Rattle.std.specs.Prelude.{◌≡◌};
 ghost use Rattle.wormweekly_commands.specs.Lasting.{ends_early, some_end_early};
 
-use metric_advice::Headroom;
 use metric_command_lines::Options;
+use metric_lint::Headroom;
 
 /// Whether all that may be recorded on an instrument is recorded, at the rate, before the time is over that it is to
 /// last. Where no time is said it never is.

@@ -7,15 +7,15 @@ ghost use Rattle.wormweekly_commands.specs.Runs.{ExpandsFile, IsUnexpanded, know
 use crate::delivering::{print, put};
 use crate::fault::{ConsoleFault, Role};
 use crate::folder::Folder;
+use crate::message::Message;
 use crate::parts::text_at;
 use crate::shown_path::shown;
 use crate::telling::{source_of, stop};
-use crate::told_fault::Told;
 use metric_base::Text;
 use metric_catalogue::CatalogueFault;
 use metric_command_lines::{Files, Request};
-use metric_diagnosis::diagnose_catalogue;
 use metric_io::Sink;
+use metric_messages::diagnose_catalogue;
 use metric_short::{ShortFault, expand, told};
 use std::alloc::{AllocError, Global};
 
@@ -97,7 +97,7 @@ fn stop_short<E: Sink>(
 ) -> u8
     ensures { result ≡ short_status fault }
 {
-    let _told = match told_short(alloc, files, source, fault) {
+    let _told = match short_message(alloc, files, source, fault) {
         Ok(told) => print(errors, told.text.as_str()),
         Err(_) => print(errors, "out of memory\n"),
     };
@@ -107,17 +107,17 @@ fn stop_short<E: Sink>(
     }
 }
 
-fn told_short(
+fn short_message(
     alloc: Global,
     files: &Files,
     source: &Text,
     fault: ShortFault,
-) -> Result<Told, AllocError> {
+) -> Result<Message, AllocError> {
     if fault == ShortFault::NotToml {
         let source = source_of(&files.catalogue, source);
         let told = diagnose_catalogue(alloc, source, CatalogueFault::NotToml);
-        return Told::diagnosed(alloc, told);
+        return Message::diagnosed(alloc, told);
     }
     let words = told(alloc, source.as_str(), fault)?;
-    Told::of_file(alloc, shown(files.catalogue.as_str()), words.as_str())
+    Message::of_file(alloc, shown(files.catalogue.as_str()), words.as_str())
 }

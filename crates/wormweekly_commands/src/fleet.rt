@@ -2,9 +2,9 @@
 ghost use Rattle.std.specs.Prelude.{◌≡◌, IfSome, IsTrue, None};
 ghost use Rattle.wormweekly_commands.specs.Fleets.{Fits};
 
-use metric_advice::Limit;
 use metric_bounds::{high, is_i64, low};
 use metric_contents::Instrument;
+use metric_lint::Limit;
 
 /// What does not fit 64 bits where a backend adds up an instrument of so many recordings, those of all processes
 /// together: their count or, where a stream keeps sums, the least or the greatest sum.

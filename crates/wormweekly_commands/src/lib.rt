@@ -22,6 +22,7 @@ mod fleet;
 mod folder;
 mod listing;
 mod marks;
+mod message;
 mod note_sheet;
 mod notes;
 mod noting;
@@ -42,7 +43,6 @@ mod shown_path;
 mod telling;
 mod telling_old;
 mod time;
-mod told_fault;
 
 pub use fault::{ConsoleFault, PageFault};
 pub use folder::{Folder, Unread, Unwritten};

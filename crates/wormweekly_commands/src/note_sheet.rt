@@ -1,13 +1,13 @@
 //! Remarks as rows, for machines.
+use crate::message::{TITLES, put_position};
 use crate::notes::Notes;
 use crate::noting::MOST_NOTES;
 use crate::parts::Texts;
 use crate::telling::pair_of;
-use crate::told_fault::{TITLES, put_position};
-use metric_advice::Remark;
 use metric_command_lines::Request;
-use metric_diagnosis::{Diagnosis, Pair, diagnose_exposure, diagnose_remark};
 use metric_exposure::ExposureFault;
+use metric_lint::Remark;
+use metric_messages::{Diagnosis, Pair, diagnose_exposure, diagnose_remark};
 use metric_sheet::{Cell, Row, Sheet};
 use std::alloc::{AllocError, Global};
 

@@ -5,10 +5,10 @@ ghost use Rattle.wormweekly_commands.specs.Answers.{AreNotes, told_outlets};
 
 use crate::concerns::{denies, kept, names};
 use crate::exposures::{Exposure, exposures_of};
-use metric_advice::{Remark, lint};
 use metric_base::{Items, Text};
 use metric_command_lines::Request;
 use metric_kit_commands::{Declared, KitFault, declared_of};
+use metric_lint::{Remark, lint};
 use metric_parts::Parts;
 use metric_resolve::{StreamList, resolve_streams};
 use std::alloc::{AllocError, Global};

@@ -1,76 +1,80 @@
 //! What a person is told of a page that a replay does not print.
 use crate::fault::PageFault;
+use crate::message::Message;
 use crate::parts::Texts;
 use crate::shown_path::shown;
 use crate::telling::pair_of;
-use crate::told_fault::Told;
 use metric_command_lines::{Files, Request};
-use metric_diagnosis::diagnose_exposure;
 use metric_exposure::{ExposureFault, Outlet};
 use metric_kit_commands::{Declared, declared_of};
+use metric_messages::diagnose_exposure;
 use metric_resolve::resolve_streams;
 use metric_resource::Resource;
 use std::alloc::{AllocError, Global};
 
 /// Tells why there is no page: of the words, or of the config and its place.
-pub(crate) fn told_page(
+pub(crate) fn page_message(
     alloc: Global,
     request: &Request,
     texts: Option<&Texts>,
     fault: PageFault,
-) -> Result<Told, AllocError> {
+) -> Result<Message, AllocError> {
     let resource = &request.resource;
     let config = shown(request.files.config.as_str());
     match fault {
-        PageFault::BadLabel { attribute } => told_label(alloc, resource, attribute),
+        PageFault::BadLabel { attribute } => label_message(alloc, resource, attribute),
         PageFault::LabelCollision { attribute, other } => {
-            told_labels(alloc, resource, attribute, other)
+            labels_message(alloc, resource, attribute, other)
         }
-        PageFault::NoReader => told_reader(alloc, config, request),
-        PageFault::NoneServed => Told::of_file(
+        PageFault::NoReader => reader_message(alloc, config, request),
+        PageFault::NoneServed => Message::of_file(
             alloc,
             config,
             "no reader has a cumulative stream, which a page needs",
         ),
-        PageFault::SeveralReaders => Told::of_file(
+        PageFault::SeveralReaders => Message::of_file(
             alloc,
             config,
             "several readers have cumulative streams; name one by '--reader'",
         ),
-        PageFault::Exposure(fault) => told_exposure(alloc, &request.files, texts, fault),
+        PageFault::Exposure(fault) => exposure_message(alloc, &request.files, texts, fault),
     }
 }
 
-fn told_label(alloc: Global, resource: &Resource, attribute: usize) -> Result<Told, AllocError> {
+fn label_message(
+    alloc: Global,
+    resource: &Resource,
+    attribute: usize,
+) -> Result<Message, AllocError> {
     let key = key_at(resource, attribute);
     let words = format!(in alloc;
         "error: '--resource': the key '{key}' has no letter and no digit for a label"
     )?;
-    Told::of_words(alloc, words)
+    Message::of_words(alloc, words)
 }
 
-fn told_labels(
+fn labels_message(
     alloc: Global,
     resource: &Resource,
     attribute: usize,
     other: usize,
-) -> Result<Told, AllocError> {
+) -> Result<Message, AllocError> {
     let key = key_at(resource, attribute);
     let also = key_at(resource, other);
     let words = format!(in alloc;
         "error: '--resource': the keys '{key}' and '{also}' are one label in a page"
     )?;
-    Told::of_words(alloc, words)
+    Message::of_words(alloc, words)
 }
 
-fn told_reader(alloc: Global, config: &str, request: &Request) -> Result<Told, AllocError> {
+fn reader_message(alloc: Global, config: &str, request: &Request) -> Result<Message, AllocError> {
     match &request.reader {
         Some(name) => {
             let name = name.as_str();
             let words = format!(in alloc; "no reader is named '{name}'")?;
-            Told::of_file(alloc, config, words.as_str())
+            Message::of_file(alloc, config, words.as_str())
         }
-        None => Told::of_file(alloc, config, "it has not each reader that '--for' names"),
+        None => Message::of_file(alloc, config, "it has not each reader that '--for' names"),
     }
 }
 
@@ -83,30 +87,30 @@ fn key_at(resource: &Resource, attribute: usize) -> &str {
 }
 
 // What a server would lose, as a lint for it tells.
-fn told_exposure(
+fn exposure_message(
     alloc: Global,
     files: &Files,
     texts: Option<&Texts>,
     fault: ExposureFault,
-) -> Result<Told, AllocError> {
+) -> Result<Message, AllocError> {
     let Some(texts) = texts else {
-        return Told::of_words(alloc, format!(in alloc; "{fault}")?);
+        return Message::of_words(alloc, format!(in alloc; "{fault}")?);
     };
     match declared_of(alloc, &texts.parts) {
-        Ok(declared) => told_of_declared(alloc, files, texts, &declared, fault),
-        Err(fault) => Told::plain(alloc, fault),
+        Ok(declared) => declared_message(alloc, files, texts, &declared, fault),
+        Err(fault) => Message::plain(alloc, fault),
     }
 }
 
-fn told_of_declared(
+fn declared_message(
     alloc: Global,
     files: &Files,
     texts: &Texts,
     declared: &Declared,
     fault: ExposureFault,
-) -> Result<Told, AllocError> {
+) -> Result<Message, AllocError> {
     let streams = resolve_streams(alloc, &declared.catalogue, &declared.config)?;
     let pair = pair_of(files, texts, declared);
     let told = diagnose_exposure(alloc, pair, streams.as_slice(), Outlet::Prometheus, fault);
-    Told::diagnosed(alloc, told)
+    Message::diagnosed(alloc, told)
 }

@@ -80,14 +80,14 @@ fn print_refused<E: Sink>(
         Some(path) => shown(path.as_str()),
         None => "script",
     };
-    match told_refused(alloc, path, refusals) {
+    match refused_message(alloc, path, refusals) {
         Ok(text) => print(errors, text.as_str()),
         Err(_) => print(errors, "out of memory\n"),
     }
 }
 
 // How many events are refused, and for what; nothing where none is.
-fn told_refused(alloc: Global, path: &str, refusals: &Refusals) -> Result<String, AllocError> {
+fn refused_message(alloc: Global, path: &str, refusals: &Refusals) -> Result<String, AllocError> {
     let mut told = String::new(alloc);
     let refused = refusals
         .counts

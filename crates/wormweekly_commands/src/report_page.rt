@@ -8,7 +8,7 @@ use crate::report::Report;
 use crate::rooms::RoomSheet;
 use crate::shares::{budget_shares, stream_shares};
 use crate::shown_path::shown;
-use crate::telling::told_kit;
+use crate::telling::kit_message;
 use metric_base::Text;
 use metric_command_lines::{Request, VERSION};
 use metric_kit_commands::{KitFault, certificate_text};
@@ -147,7 +147,7 @@ fn push_safety(
         Ok(_) => push_text(page, "<p>They are safe: a certificate can be made.</p>\n"),
         Err(KitFault::Memory) => Err(AllocError),
         Err(fault) => {
-            let told = told_kit(alloc, &request.files, texts, fault)?;
+            let told = kit_message(alloc, &request.files, texts, fault)?;
             push_text(page, "<p class=\"refused\">They have no certificate. ")?;
             push_html_text(page, told.text.as_str().lines().next().unwrap_or(""))?;
             push_text(page, "</p>\n")

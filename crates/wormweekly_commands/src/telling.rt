@@ -8,22 +8,22 @@ use crate::delivering::{flush, print};
 use crate::exposures::Exposure;
 use crate::fault::{ConsoleFault, Role, of_sheet};
 use crate::listing::Listing;
+use crate::message::Message;
 use crate::notes::Notes;
-use crate::page_words::told_page;
+use crate::page_words::page_message;
 use crate::parts::Texts;
 use crate::shown_path::shown;
-use crate::telling_old::told_old;
-use crate::told_fault::Told;
-use metric_advice::{Remark, remark_of};
+use crate::telling_old::old_message;
 use metric_base::Text;
 use metric_command_lines::{Files, Misuse, Request, RequestFault};
-use metric_diagnosis::{
+use metric_io::Sink;
+use metric_kit_commands::{Declared, KitFault, declared_of};
+use metric_lint::{Remark, remark_of};
+use metric_make::MakeFault;
+use metric_messages::{
     NamedText, Pair, diagnose_catalogue, diagnose_certificate, diagnose_check, diagnose_config,
     diagnose_exposure, diagnose_make, diagnose_remark,
 };
-use metric_io::Sink;
-use metric_kit_commands::{Declared, KitFault, declared_of};
-use metric_make::MakeFault;
 use metric_sheet::write_json;
 use std::alloc::{AllocError, Global};
 
@@ -52,7 +52,7 @@ pub(crate) fn tell_line<W: Sink, E: Sink>(fault: RequestFault, sink: &mut W, err
         RequestFault::Nothing => misused("no command is named; try 'wormweekly --help'\n", errors),
         RequestFault::Misused(misuse) => misused(words_of(misuse), errors),
         RequestFault::Memory => {
-            let _told = print(errors, "out of memory\n");
+            let _message = print(errors, "out of memory\n");
             4
         }
     }
@@ -83,7 +83,7 @@ fn words_of(misuse: Misuse) -> &'static str {
 fn unwritten<E: Sink>(errors: &mut E) -> u8
     ensures { result ≡ 5 }
 {
-    let _told = print(errors, "standard output: a write failed\n");
+    let _message = print(errors, "standard output: a write failed\n");
     UNWRITTEN
 }
 
@@ -91,7 +91,7 @@ fn unwritten<E: Sink>(errors: &mut E) -> u8
 fn misused<E: Sink>(text: &str, errors: &mut E) -> u8
     ensures { result ≡ 2 }
 {
-    let _told = print(errors, text);
+    let _message = print(errors, text);
     USAGE
 }
 
@@ -110,8 +110,8 @@ pub(crate) fn stop_in_form<X: Sink, E: Sink>(
     if !request.options.json || fault.status() >= OF_DEVICES {
         return stop(alloc, request, texts, fault, errors);
     }
-    let _told = match told(alloc, request, texts, fault) {
-        Ok(told) => print_told(alloc, faults, &told),
+    let _message = match fault_message(alloc, request, texts, fault) {
+        Ok(told) => print_message(alloc, faults, &told),
         Err(_) => print(errors, "out of memory\n"),
     };
     fault.status()
@@ -127,7 +127,7 @@ pub(crate) fn stop<E: Sink>(
 ) -> u8
     ensures { result ≡ status_of fault }
 {
-    let _told = match told(alloc, request, texts, fault) {
+    let _message = match fault_message(alloc, request, texts, fault) {
         Ok(told) => print(errors, told.text.as_str()),
         Err(_) => print(errors, "out of memory\n"),
     };
@@ -135,7 +135,7 @@ pub(crate) fn stop<E: Sink>(
 }
 
 // Writes a fault as a line of JSON.
-fn print_told<X: Sink>(alloc: Global, faults: &mut X, told: &Told) -> Result<(), KitFault> {
+fn print_message<X: Sink>(alloc: Global, faults: &mut X, told: &Message) -> Result<(), KitFault> {
     match write_json(alloc, faults, told) {
         Ok(()) => flush(faults),
         Err(fault) => Err(of_sheet(fault)),
@@ -150,7 +150,7 @@ pub(crate) fn warn<E: Sink>(
     answer: &Answer,
     errors: &mut E,
 ) {
-    let _told = match answer {
+    let _message = match answer {
         Answer::Streams(listing) => match warnings_of(alloc, &request.files, texts, listing) {
             Ok(text) => print(errors, text.as_str()),
             Err(_) => print(errors, "out of memory\n"),
@@ -180,35 +180,39 @@ fn warnings_of(
 }
 
 // A fault with its file and its place.
-fn told(
+fn fault_message(
     alloc: Global,
     request: &Request,
     texts: Option<&Texts>,
     fault: ConsoleFault,
-) -> Result<Told, AllocError> {
+) -> Result<Message, AllocError> {
     let files = &request.files;
     match fault {
         ConsoleFault::Unread { role, cause } => {
-            Told::of_file(alloc, path_of(files, role), cause.words())
+            Message::of_file(alloc, path_of(files, role), cause.words())
         }
-        ConsoleFault::Overwrites { role } => told_overwritten(alloc, files, role),
-        ConsoleFault::Unwritten { cause } => Told::of_file(alloc, output_of(files), cause.words()),
-        ConsoleFault::Page(fault) => told_page(alloc, request, texts, fault),
-        ConsoleFault::Old(fault) => told_old(alloc, files, texts, fault),
+        ConsoleFault::Overwrites { role } => overwritten_message(alloc, files, role),
+        ConsoleFault::Unwritten { cause } => Message::of_file(
+            alloc,
+            output_of(files),
+            cause.words(),
+        ),
+        ConsoleFault::Page(fault) => page_message(alloc, request, texts, fault),
+        ConsoleFault::Old(fault) => old_message(alloc, files, texts, fault),
         ConsoleFault::Kit(KitFault::Write) => {
-            Told::of_file(alloc, "standard output", "a write failed")
+            Message::of_file(alloc, "standard output", "a write failed")
         }
         ConsoleFault::Kit(fault) => match texts {
-            Some(texts) => told_kit(alloc, files, texts, fault),
-            None => Told::plain(alloc, fault),
+            Some(texts) => kit_message(alloc, files, texts, fault),
+            None => Message::plain(alloc, fault),
         },
     }
 }
 
-fn told_overwritten(alloc: Global, files: &Files, role: Role) -> Result<Told, AllocError> {
+fn overwritten_message(alloc: Global, files: &Files, role: Role) -> Result<Message, AllocError> {
     let input = path_of(files, role);
     let words = format!(in alloc; "it is not written, since it is the file {input} that is read")?;
-    Told::of_file(alloc, output_of(files), words.as_str())
+    Message::of_file(alloc, output_of(files), words.as_str())
 }
 
 // The path of the file to write to.
@@ -253,66 +257,66 @@ fn named(files: &Files, role: Role) -> &str {
 }
 
 /// A fault that `metric_kit` has too, with its place and its cause where it has these.
-pub(crate) fn told_kit(
+pub(crate) fn kit_message(
     alloc: Global,
     files: &Files,
     texts: &Texts,
     fault: KitFault,
-) -> Result<Told, AllocError> {
+) -> Result<Message, AllocError> {
     match fault {
         KitFault::Catalogue(fault) => {
             let source = source_of(&texts.name, &texts.parts.catalogue);
-            Told::diagnosed(alloc, diagnose_catalogue(alloc, source, fault))
+            Message::diagnosed(alloc, diagnose_catalogue(alloc, source, fault))
         }
         KitFault::Config(fault) => {
             let source = source_of(&files.config, &texts.parts.config);
-            Told::diagnosed(alloc, diagnose_config(alloc, source, fault))
+            Message::diagnosed(alloc, diagnose_config(alloc, source, fault))
         }
-        KitFault::Make(fault) => told_make(alloc, files, texts, fault),
-        KitFault::Input { line } => told_script(alloc, files, texts, line),
+        KitFault::Make(fault) => make_message(alloc, files, texts, fault),
+        KitFault::Input { line } => script_message(alloc, files, texts, line),
         KitFault::Certificate(_) | KitFault::Check(_) => {
-            told_certificate(alloc, files, texts, fault)
+            certificate_message(alloc, files, texts, fault)
         }
-        _ => Told::plain(alloc, fault),
+        _ => Message::plain(alloc, fault),
     }
 }
 
 // A fault of a certificate, or of its check.
-fn told_certificate(
+fn certificate_message(
     alloc: Global,
     files: &Files,
     texts: &Texts,
     fault: KitFault,
-) -> Result<Told, AllocError> {
+) -> Result<Message, AllocError> {
     let (Some(path), Some(text)) = (&files.certificate, &texts.parts.certificate) else {
-        return Told::plain(alloc, fault);
+        return Message::plain(alloc, fault);
     };
     match fault {
         KitFault::Certificate(fault) => {
             let source = source_of(path, text);
-            Told::diagnosed(alloc, diagnose_certificate(alloc, source, fault))
+            Message::diagnosed(alloc, diagnose_certificate(alloc, source, fault))
         }
         KitFault::Check(fault) => {
             let source = source_of(path, text);
-            Told::diagnosed(alloc, diagnose_check(alloc, source, fault))
+            Message::diagnosed(alloc, diagnose_check(alloc, source, fault))
         }
-        _ => Told::plain(alloc, fault),
+        _ => Message::plain(alloc, fault),
     }
 }
 
 // Which part of safety fails.
-fn told_make(
+fn make_message(
     alloc: Global,
     files: &Files,
     texts: &Texts,
     fault: MakeFault,
-) -> Result<Told, AllocError> {
+) -> Result<Message, AllocError> {
     match declared_of(alloc, &texts.parts) {
         Ok(declared) => {
             let pair = pair_of(files, texts, &declared);
-            Told::diagnosed(alloc, diagnose_make(alloc, pair, fault))
+            Message::diagnosed(alloc, diagnose_make(alloc, pair, fault))
         }
-        Err(fault) => Told::plain(alloc, fault),
+        Err(fault) => Message::plain(alloc, fault),
     }
 }
 
@@ -334,7 +338,12 @@ pub(crate) fn pair_of<'t>(files: &'t Files, texts: &'t Texts, declared: &'t Decl
 }
 
 // The line of the script at which it is none; of one that no line starts, no place.
-fn told_script(alloc: Global, files: &Files, texts: &Texts, line: u64) -> Result<Told, AllocError> {
+fn script_message(
+    alloc: Global,
+    files: &Files,
+    texts: &Texts,
+    line: u64,
+) -> Result<Message, AllocError> {
     let path = path_of(files, Role::Script);
     let text = match &texts.script {
         Some(script) => script.as_str(),
@@ -342,11 +351,11 @@ fn told_script(alloc: Global, files: &Files, texts: &Texts, line: u64) -> Result
     };
     let place = usize::try_from(line.saturating_sub(1)).unwrap_or(usize::MAX);
     match text.lines().nth(place) {
-        None => Told::of_file(alloc, path, UNSTARTED),
+        None => Message::of_file(alloc, path, UNSTARTED),
         Some(_) if is_begin(text, place) => {
-            Told::of_line(alloc, path, place.saturating_add(1), UNSTARTED)
+            Message::of_line(alloc, path, place.saturating_add(1), UNSTARTED)
         }
-        Some(line) => Told::of_line(alloc, path, place.saturating_add(1), cause_of_line(line)),
+        Some(line) => Message::of_line(alloc, path, place.saturating_add(1), cause_of_line(line)),
     }
 }
 
@@ -390,7 +399,7 @@ pub(crate) fn push_exposure(
     let pair = pair_of(files, texts, &notes.declared);
     let Exposure { outlet, fault } = exposure;
     let streams = notes.streams.as_slice();
-    let told = Told::diagnosed(
+    let told = Message::diagnosed(
         alloc,
         diagnose_exposure(alloc, pair, streams, outlet, fault),
     )?;
@@ -407,6 +416,6 @@ pub(crate) fn push_note(
     remark: Remark,
 ) -> Result<(), AllocError> {
     let pair = pair_of(files, texts, declared);
-    let told = Told::diagnosed(alloc, diagnose_remark(alloc, pair, remark))?;
+    let told = Message::diagnosed(alloc, diagnose_remark(alloc, pair, remark))?;
     note.push_str(told.text.as_str())
 }

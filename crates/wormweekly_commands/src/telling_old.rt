@@ -1,20 +1,20 @@
 //! What a person is told of a fault of the old files of a comparison.
+use crate::message::Message;
 use crate::parts::Texts;
 use crate::telling::source_of;
-use crate::told_fault::Told;
 use metric_base::Text;
 use metric_command_lines::Files;
-use metric_diagnosis::{NamedText, diagnose_catalogue, diagnose_config};
 use metric_kit_commands::KitFault;
+use metric_messages::{NamedText, diagnose_catalogue, diagnose_config};
 use std::alloc::{AllocError, Global};
 
 /// A fault of the old files, with its place and its cause.
-pub(crate) fn told_old(
+pub(crate) fn old_message(
     alloc: Global,
     files: &Files,
     texts: Option<&Texts>,
     fault: KitFault,
-) -> Result<Told, AllocError> {
+) -> Result<Message, AllocError> {
     let Some(
         Texts {
             old: Some(parts),
@@ -22,18 +22,18 @@ pub(crate) fn told_old(
         },
     ) = texts
     else {
-        return Told::plain(alloc, fault);
+        return Message::plain(alloc, fault);
     };
     match fault {
         KitFault::Catalogue(fault) => {
             let source = named(&files.old_catalogue, &parts.catalogue);
-            Told::diagnosed(alloc, diagnose_catalogue(alloc, source, fault))
+            Message::diagnosed(alloc, diagnose_catalogue(alloc, source, fault))
         }
         KitFault::Config(fault) => {
             let source = named(&files.old_config, &parts.config);
-            Told::diagnosed(alloc, diagnose_config(alloc, source, fault))
+            Message::diagnosed(alloc, diagnose_config(alloc, source, fault))
         }
-        _ => Told::plain(alloc, fault),
+        _ => Message::plain(alloc, fault),
     }
 }
 

@@ -16,9 +16,9 @@ use crate::wormweekly::fault::{Misuse, RequestFault, fault_of};
 use crate::wormweekly::request::{Concerns, Files, Form, Options, Request, Task};
 use crate::wormweekly::standard::{output_of, reads_twice};
 use clap::ArgMatches;
-use metric_advice::is_kind;
 use metric_base::{Items, Text};
-use metric_changes::is_change;
+use metric_diff::is_change;
+use metric_lint::is_kind;
 use metric_resource::Resource;
 use std::alloc::{AllocError, Global};
 

@@ -1,7 +1,7 @@
 -- one line more
 use Rattle.std.proofs.Common.{List, subst}
 use Rattle.std.proofs.lemmas.List.{take_all}
-use Rattle.metric_advice.specs.declared.remark.Remark.{Remark}
+use Rattle.metric_lint.specs.declared.remark.Remark.{Remark}
 use Rattle.wormweekly_c.proofs.LintLaws.{line_at, no_line}
 use Rattle.wormweekly_c.specs.Linting.{PushesLines}
 use Rattle.wormweekly_c.proofs.linting.push_remarks.Goals as goal

@@ -1,7 +1,7 @@
 -- the changes are those of the two sides
 use Rattle.std.proofs.Common.{◌∙◌, ap, ℕ, List}
 use Rattle.metric_views.specs.declared.stream.Stream.{Stream}
-use Rattle.metric_changes.specs.Changes.{plan}
+use Rattle.metric_diff.specs.Changes.{plan}
 use Rattle.wormweekly_commands.specs.Series.{all_series}
 use Rattle.wormweekly_commands.proofs.Sides.{same_changes}
 use Rattle.wormweekly_commands.proofs.comparing.compared.Goals as goal

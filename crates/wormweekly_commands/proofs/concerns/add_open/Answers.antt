@@ -1,8 +1,8 @@
 -- one change more
 use Rattle.std.proofs.Common.{◌++◌, List, take_all, ap, ◌∙◌, arith}
 use Rattle.std.proofs.lemmas.List.{get_or_default}
-use Rattle.metric_changes.specs.declared.change.Change.{Change}
-use Rattle.metric_changes.proofs.Lists.{numbered_turn}
+use Rattle.metric_diff.specs.declared.change.Change.{Change}
+use Rattle.metric_diff.proofs.Lists.{numbered_turn}
 use Rattle.wormweekly_commands.specs.Concerns.{still_open, unless_accepted}
 use Rattle.wormweekly_commands.proofs.concerns.add_open.Goals as goal
 

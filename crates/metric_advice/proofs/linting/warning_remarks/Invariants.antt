@@ -1,7 +1,0 @@
--- the remarks of the warnings so far
-use Rattle.std.proofs.Common.{◌≡◌, map, take}
-use Rattle.metric_advice.specs.Remarks.{remark_of}
-use Rattle.metric_advice.proofs.linting.warning_remarks.Given as goal
-
-abbrev pub invariant-loop-warning : goal.invariant-loop-warning
-invariant-loop-warning l = l.remarks ≡ map remark_of (take l.warning-index l.warnings)

@@ -1,0 +1,13 @@
+-- the streams are those that the pair gives
+use Rattle.std.proofs.Common.{List, slice_get, ap, ◌∙◌}
+use Rattle.std.proofs.lemmas.Result.{IfOk-weaker}
+use Rattle.metric_views.specs.declared.stream.Stream.{Stream}
+use Rattle.metric_messages.specs.Places.{place_of_two}
+use Rattle.metric_messages.proofs.unsafe_parts.collision_message.Goals as goal
+
+pub returns : goal.returns
+returns c =
+    IfOk-weaker c.placed.result _ _
+    (λ told is. is ∙ c.two_place.ensures
+    ∙ ap (λ (s : List Stream). place_of_two (slice_get s c.args.first) (slice_get s c.args.later)) (c.as_slice.ensures.items ∙ c.in_ok-streams.ensures.list))
+    c.placed.ensures
