@@ -209,239 +209,81 @@ mod service;
 mod service_fault;
 mod tables;
 
-pub use headline::certified_plans_run_exactly;
-pub use headline::certified_runs_are_exact;
-pub use leftover::Ended;
-pub use leftover::Left;
-pub use leftover::NextRun;
-pub use leftover::Unended;
-pub use leftover::UnendedFault;
-pub use living::Work;
-pub use living::live;
-pub use metric_aggregate::PointValue;
-pub use metric_audit::AuditFault;
-pub use metric_audit::Audited;
-pub use metric_audit::Extent;
-pub use metric_audit::RunAuditFault;
-pub use metric_audit::audit;
-pub use metric_base::Boundaries;
-pub use metric_base::Few;
-pub use metric_base::Items;
-pub use metric_base::Shared;
-pub use metric_base::Text;
-pub use metric_catalogue::Catalogue;
-pub use metric_catalogue::CatalogueDefect;
-pub use metric_catalogue::CatalogueFault;
-pub use metric_catalogue::CatalogueField;
-pub use metric_catalogue::CataloguePlace;
-pub use metric_catalogue::CatalogueSpot;
-pub use metric_cert::CertFault;
-pub use metric_cert::CertList;
-pub use metric_cert::CertPlace;
-pub use metric_cert::Certificate;
-pub use metric_check::ClaimFault;
-pub use metric_check::ClaimPlace;
-pub use metric_check::check;
-pub use metric_combinations::Combinations;
-pub use metric_contents::Attr;
-pub use metric_contents::Instrument;
-pub use metric_contents::Key;
-pub use metric_contents::Kind;
-pub use metric_contents::Meter;
-pub use metric_contents::OwnedAttr;
-pub use metric_contents::Refusal;
-pub use metric_contents::SetKey;
-pub use metric_contents::Values;
-pub use metric_export::Encoding;
-pub use metric_export::ExportFault;
-pub use metric_export::ExporterState;
-pub use metric_export::Handed;
-pub use metric_export::KeepingExporter;
-pub use metric_export::MetricExporter;
-pub use metric_export::OpenSink;
-pub use metric_export::Plain;
-pub use metric_export::QueueCounts;
-pub use metric_export::Queued;
-pub use metric_export::ReopeningExporter;
-pub use metric_export::TextExporter;
-pub use metric_export::ToldQueue;
-pub use metric_export::attributes;
-pub use metric_export::export_each;
-pub use metric_export::has_points;
-pub use metric_export::own_batch;
-pub use metric_export::own_plan;
-pub use metric_export::write_batch;
-pub use metric_export::write_encoded;
-pub use metric_exposition::Dialect;
-pub use metric_exposition::TargetFault;
-pub use metric_exposure::ExposureFault;
-pub use metric_exposure::expose;
-pub use metric_exposure::expose_to_otlp;
-pub use metric_facts::Facts;
-pub use metric_handles::Adds;
-pub use metric_handles::AnySeat;
-pub use metric_handles::Asking;
-pub use metric_handles::At;
-pub use metric_handles::Bound;
-pub use metric_handles::BoundCounter;
-pub use metric_handles::BoundGauge;
-pub use metric_handles::BoundHistogram;
-pub use metric_handles::BoundList;
-pub use metric_handles::BoundUpDownCounter;
-pub use metric_handles::Counted;
-pub use metric_handles::Counter;
-pub use metric_handles::Gauge;
-pub use metric_handles::Handle;
-pub use metric_handles::HandleFault;
-pub use metric_handles::Histogram;
-pub use metric_handles::IsCounter;
-pub use metric_handles::IsGauge;
-pub use metric_handles::IsHistogram;
-pub use metric_handles::IsUpDownCounter;
-pub use metric_handles::ListFault;
-pub use metric_handles::Need;
-pub use metric_handles::Recorded;
-pub use metric_handles::Records;
-pub use metric_handles::Refused;
-pub use metric_handles::Replaced;
-pub use metric_handles::Seat;
-pub use metric_handles::TimeUnit;
-pub use metric_handles::TimedFault;
-pub use metric_handles::Timer;
-pub use metric_handles::TimerFault;
-pub use metric_handles::UpDownCounter;
-pub use metric_handles::counter;
-pub use metric_handles::gauge;
-pub use metric_handles::histogram;
-pub use metric_handles::left;
-pub use metric_handles::take_reader;
-pub use metric_handles::take_recorder;
-pub use metric_handles::up_down_counter;
-pub use metric_handles::value_of;
-pub use metric_history::Batch;
-pub use metric_history::Book;
-pub use metric_history::Entry;
-pub use metric_history::Point;
-pub use metric_history::StreamPoints;
-pub use metric_io::Broken;
-pub use metric_io::CutSink;
-pub use metric_io::CutSource;
-pub use metric_io::ReadFault;
-pub use metric_io::Sink;
-pub use metric_io::Source;
-pub use metric_io::SourceFault;
-pub use metric_io::StdSink;
-pub use metric_io::StdSource;
-pub use metric_io::read_all;
-pub use metric_io::write_all;
-pub use metric_lint::Explanation;
-pub use metric_lint::Headroom;
-pub use metric_lint::KeyList;
-pub use metric_lint::Limit;
-pub use metric_lint::Mistake;
-pub use metric_lint::Position;
-pub use metric_lint::Remark;
-pub use metric_lint::explain_refusal;
-pub use metric_lint::headrooms;
-pub use metric_lint::lint;
-pub use metric_lint::locate_in_catalogue;
-pub use metric_lint::locate_in_config;
-pub use metric_make::MakeFault;
-pub use metric_make::make;
-pub use metric_marked::Marked;
-pub use metric_messages::Diagnosis;
-pub use metric_messages::Excerpt;
-pub use metric_messages::NamedText;
-pub use metric_messages::Pair;
-pub use metric_messages::diagnose_catalogue;
-pub use metric_messages::diagnose_certificate;
-pub use metric_messages::diagnose_check;
-pub use metric_messages::diagnose_config;
-pub use metric_messages::diagnose_make;
-pub use metric_messages::diagnose_remark;
-pub use metric_names::AttrValue;
-pub use metric_names::ValueRef;
-pub use metric_outlets::Exposition;
-pub use metric_outlets::OtlpBytes;
-pub use metric_outlets::OtlpLines;
-pub use metric_outlets::OutletFault;
-pub use metric_outlets::PageExporter;
-pub use metric_outlets::Pages;
-pub use metric_outlets::Served;
-pub use metric_periodic::ClockTicker;
-pub use metric_periodic::Collection;
-pub use metric_periodic::ListTicker;
-pub use metric_periodic::Outlet;
-pub use metric_periodic::OutletLeft;
-pub use metric_periodic::Outlets;
-pub use metric_periodic::Periodic;
-pub use metric_periodic::PeriodicEnd;
-pub use metric_periodic::ReaderEnd;
-pub use metric_periodic::RefusedInstrument;
-pub use metric_periodic::RunningCounts;
-pub use metric_periodic::StopCause;
-pub use metric_periodic::StopFlag;
-pub use metric_periodic::Tick;
-pub use metric_periodic::Ticker;
-pub use metric_periodic::Uncollected;
-pub use metric_periodic::Unexported;
-pub use metric_periodic::collect_each;
-pub use metric_periodic::make_turns;
-pub use metric_periodic::outlets_tell_once;
-pub use metric_plan::CheckFault;
-pub use metric_plan::Plan;
-pub use metric_provider::AllFault;
-pub use metric_provider::Collector;
-pub use metric_provider::FinishFault;
-pub use metric_provider::Finished;
-pub use metric_provider::Gate;
-pub use metric_provider::Measurement;
-pub use metric_provider::NoGate;
-pub use metric_provider::Partly;
-pub use metric_provider::Provider;
-pub use metric_provider::Recorder;
-pub use metric_provider::RollFault;
-pub use metric_provider::Rolled;
-pub use metric_provider::SetsFault;
-pub use metric_provider::Slip;
-pub use metric_provider::Told;
-pub use metric_provider::Total;
-pub use metric_provider::Totals;
-pub use metric_provider::batches_are_bounded;
-pub use metric_provider::start;
-pub use metric_provider::start_with_lanes;
-pub use metric_provider::windows_meet;
-pub use metric_resource::Resource;
-pub use metric_resource::ResourceFault;
-pub use metric_setup::SetupFault;
-pub use metric_setup::certified_plan;
-pub use metric_setup::vouched_plan;
-pub use metric_slot::Slot;
-pub use metric_views::ByKind;
-pub use metric_views::Config;
-pub use metric_views::ConfigField;
-pub use metric_views::ConfigPlace;
-pub use metric_views::ConfigSpot;
-pub use metric_views::Reader;
-pub use metric_views::Stream;
-pub use metric_views::StreamAggregation;
-pub use metric_views::Temporality;
-pub use metric_views::ViewDefect;
-pub use metric_views::ViewFault;
-pub use opening::open;
-pub use opening::open_audited;
-pub use opening::open_certified;
-pub use opening::open_with_lanes;
-pub use provider::AuditedProvider;
-pub use provider::MeterProvider;
+pub use headline::{certified_plans_run_exactly, certified_runs_are_exact};
+pub use leftover::{Ended, Left, NextRun, Unended, UnendedFault};
+pub use living::{Work, live};
+pub use opening::{open, open_audited, open_certified, open_with_lanes};
+pub use provider::{AuditedProvider, MeterProvider};
 pub use run_audit::audit_run;
-pub use runs::Runs;
-pub use runs::now;
-pub use service::Service;
-pub use service::ServiceBuilder;
-pub use service::TellFault;
-pub use service::TellLeft;
-pub use service::Untold;
+pub use runs::{Runs, now};
+pub use service::{Service, ServiceBuilder, TellFault, TellLeft, Untold};
 pub use service_fault::ServiceFault;
-pub use tables::audited_tables_are_bounded;
-pub use tables::tables_are_bounded;
+pub use tables::{audited_tables_are_bounded, tables_are_bounded};
+
+// What is declared.
+pub use metric_base::{Boundaries, Few, Items, Shared, Text};
+pub use metric_catalogue::{
+    Catalogue, CatalogueDefect, CatalogueFault, CatalogueField, CataloguePlace, CatalogueSpot,
+};
+pub use metric_cert::{CertFault, CertList, CertPlace, Certificate};
+pub use metric_check::{ClaimFault, ClaimPlace, check};
+pub use metric_combinations::Combinations;
+pub use metric_contents::{Attr, Instrument, Key, Kind, Meter, OwnedAttr, Refusal, SetKey, Values};
+pub use metric_lint::{
+    Explanation, Headroom, KeyList, Limit, Mistake, Position, Remark, explain_refusal, headrooms,
+    lint, locate_in_catalogue, locate_in_config,
+};
+pub use metric_make::{MakeFault, make};
+pub use metric_messages::{
+    Diagnosis, Excerpt, NamedText, Pair, diagnose_catalogue, diagnose_certificate, diagnose_check,
+    diagnose_config, diagnose_make, diagnose_remark,
+};
+pub use metric_names::{AttrValue, ValueRef};
+pub use metric_plan::{CheckFault, Plan};
+pub use metric_setup::{SetupFault, certified_plan, vouched_plan};
+pub use metric_views::{
+    ByKind, Config, ConfigField, ConfigPlace, ConfigSpot, Reader, Stream, StreamAggregation,
+    Temporality, ViewDefect, ViewFault,
+};
+
+// What records, and what is collected.
+pub use metric_aggregate::PointValue;
+pub use metric_audit::{AuditFault, Audited, Extent, RunAuditFault, audit};
+pub use metric_facts::Facts;
+pub use metric_handles::{
+    Adds, AnySeat, Asking, At, Bound, BoundCounter, BoundGauge, BoundHistogram, BoundList,
+    BoundUpDownCounter, Counted, Counter, Gauge, Handle, HandleFault, Histogram, IsCounter,
+    IsGauge, IsHistogram, IsUpDownCounter, ListFault, Need, Recorded, Records, Refused, Replaced,
+    Seat, TimeUnit, TimedFault, Timer, TimerFault, UpDownCounter, counter, gauge, histogram, left,
+    take_reader, take_recorder, up_down_counter, value_of,
+};
+pub use metric_history::{Batch, Book, Entry, Point, StreamPoints};
+pub use metric_marked::Marked;
+pub use metric_provider::{
+    AllFault, Collector, FinishFault, Finished, Gate, Measurement, NoGate, Partly, Provider,
+    Recorder, RollFault, Rolled, SetsFault, Slip, Told, Total, Totals, batches_are_bounded, start,
+    start_with_lanes, windows_meet,
+};
+pub use metric_slot::Slot;
+
+// What exports.
+pub use metric_export::{
+    Encoding, ExportFault, ExporterState, Handed, KeepingExporter, MetricExporter, OpenSink, Plain,
+    QueueCounts, Queued, ReopeningExporter, TextExporter, ToldQueue, attributes, export_each,
+    has_points, own_batch, own_plan, write_batch, write_encoded,
+};
+pub use metric_exposition::{Dialect, TargetFault};
+pub use metric_exposure::{ExposureFault, expose, expose_to_otlp};
+pub use metric_io::{
+    Broken, CutSink, CutSource, ReadFault, Sink, Source, SourceFault, StdSink, StdSource, read_all,
+    write_all,
+};
+pub use metric_outlets::{
+    Exposition, OtlpBytes, OtlpLines, OutletFault, PageExporter, Pages, Served,
+};
+pub use metric_periodic::{
+    ClockTicker, Collection, ListTicker, Outlet, OutletLeft, Outlets, Periodic, PeriodicEnd,
+    ReaderEnd, RefusedInstrument, RunningCounts, StopCause, StopFlag, Tick, Ticker, Uncollected,
+    Unexported, collect_each, make_turns, outlets_tell_once,
+};
+pub use metric_resource::{Resource, ResourceFault};
