@@ -1,9 +1,7 @@
 -- An exporter that is called for batches, one after the other.
-use Rattle.std.proofs.Common.{◌≡◌, true, false, Ok, Err, sym, ℕ, ◌+◌, ◌<◌, ◌≤◌, List, [], ◌∷◌, ◌++◌, Result, length, get_or, take, subst, refl}
-use Rattle.std.proofs.lemmas.Bool.{false≢true}
+use Rattle.std.proofs.Common.{◌≡◌, Ok, Err, ℕ, ◌+◌, ◌<◌, ◌≤◌, List, [], ◌∷◌, ◌++◌, Result, length, get_or, take, subst, refl}
 use Rattle.std.proofs.lemmas.List.{take_all, take_more}
-use Rattle.std.specs.Result.{is_err, result_err}
-use Rattle.metric_io.specs.Counts.{next_count}
+use Rattle.std.specs.Result.{result_err}
 use Rattle.metric_periodic.specs.Outlets.{answer_of}
 use Rattle.metric_history.specs.declared.batch.Batch.{Batch}
 use Rattle.metric_export.specs.declared.fault.ExportFault.{ExportFault}
@@ -60,15 +58,6 @@ next_exported exports a b c batches i batch within is p q =
 pub all_taken : {E : Type 0} (exports : Exporting E) (a b : Tally E) (batches : List Batch) (i : ℕ) → length batches ≤ i
     → ExportsEach exports a b (take i batches) → ExportsEach exports a b batches
 all_taken exports a b batches i over p = subst (ExportsEach exports a b) (take_all i batches over) p
-
--- a failure is counted, and nothing else
-pub failure_counted : (failed : ℕ) (answer : Result (Unit {0}) ExportFault) → true ≡ is_err answer → next_count failed ≡ failed_after failed answer
-failure_counted failed (Ok done) is = absurd (false≢true (sym is))
-failure_counted failed (Err fault) is = refl
-
-pub none_counted : (failed : ℕ) (answer : Result (Unit {0}) ExportFault) → false ≡ is_err answer → failed ≡ failed_after failed answer
-none_counted failed (Ok done) is = refl
-none_counted failed (Err fault) is = absurd (false≢true is)
 
 -- an answer, by its fault
 pub answer_of_fault : (answer : Result (Unit {0}) ExportFault) → answer_of (result_err answer) ≡ answer

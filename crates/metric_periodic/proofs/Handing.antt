@@ -7,7 +7,7 @@ use Rattle.metric_export.specs.declared.fault.ExportFault.{ExportFault}
 use Rattle.metric_periodic.specs.declared.tick.StopCause.{StopCause}
 use Rattle.metric_history.specs.declared.batch.Batch.{Batch}
 use Rattle.metric_seat.specs.Seats.{CollectorValue, ProviderValue}
-use Rattle.metric_periodic.specs.Collections.{Collected, Collecting, CollectingLast, CollectsLast}
+use Rattle.metric_periodic.specs.Collections.{Collected, CollectsLast}
 use Rattle.metric_periodic.specs.Counts.{AreCalls, Handed, HandsOn, HandsOnNothing, HandsOnToEnd, handed}
 use Rattle.metric_export.specs.ExporterCalls.{Calls}
 use Rattle.metric_export.specs.Handings.{Answering, Exporting}
@@ -136,18 +136,18 @@ handed_and_flushed calls text contents tells t asked a b collected is p =
     let last = hands_on_nothing t _ _ (handed_nothing calls.flushes contents tells.flushing p.settled b p.flushed) in
     (hands_on_more t _ _ _ (hands_on_more t _ _ _ first.0 tried.0) last, tells.same_flushing _ _ _ p.flushed.call ∙ tried.1)
 
-handed_turns : {T C E : Type 0} (gives : Giving T) (collects : Collecting C) (calls : Calls E)
+handed_turns : {T E : Type 0} (gives : Giving T) (by : ProviderValue) (calls : Calls E)
     (text : E → Batch → List ℕ) (contents : E → Option (List ℕ)) → Tells calls text contents
-    → (t : Batch → List ℕ) (made : ℕ) (start end : Progress T C E)
-    → text start.counts.exporter ≡ t → AreTurns gives collects calls made start end
+    → (t : Batch → List ℕ) (made : ℕ) (start end : Progress T E)
+    → text start.counts.exporter ≡ t → AreTurns gives by calls made start end
     → HandsOn t (shown contents start.counts) (shown contents end.counts) × (text end.counts.exporter ≡ t)
-handed_turns {T} {C} {E} gives collects calls text contents tells t zero start end is p = (
-  subst (λ (e : Progress T C E). HandsOn t (shown contents start.counts) (shown contents e.counts)) (sym p) (hands_on_none t _),
-  ap (λ (e : Progress T C E). text e.counts.exporter) p ∙ is,
+handed_turns {T} {E} gives by calls text contents tells t zero start end is p = (
+  subst (λ (e : Progress T E). HandsOn t (shown contents start.counts) (shown contents e.counts)) (sym p) (hands_on_none t _),
+  ap (λ (e : Progress T E). text e.counts.exporter) p ∙ is,
 )
-handed_turns gives collects calls text contents tells t (suc made) start end is p =
+handed_turns gives by calls text contents tells t (suc made) start end is p =
     let turn = p.1.1.collected_at in
-    let before = handed_turns gives collects calls text contents tells t made start p.0 is p.1.0 in
+    let before = handed_turns gives by calls text contents tells t made start p.0 is p.1.0 in
     let last = handed_and_flushed calls text contents tells t (is_woken p.1.1.tick) p.0.counts end.counts turn.collected before.1 turn.exported in
     (hands_on_more t _ _ _ before.0 last.0, last.1)
 
@@ -156,17 +156,15 @@ failed_or_not : (old new : ℕ) (answer : Result (Unit {0}) ExportFault) → new
 failed_or_not old new (Ok done) p = inl p
 failed_or_not old new (Err fault) p = inr p
 
-pub run_hands_on : {T C E : Type 0} (gives : Giving T) (collects : Collecting C) (last : CollectingLast C)
-    (calls : Calls E) (text : E → Batch → List ℕ) (contents : E → Option (List ℕ)) → Tells calls text contents
-    → (most : ℕ) (start : Progress T C E) (ticker : T) (stopped : Option StopCause) (kept : Option C) (counts : Tally E)
-    → IsRun gives collects last calls most start ticker stopped kept counts
+pub run_hands_on : {T E : Type 0} (gives : Giving T) (by : ProviderValue) (calls : Calls E) (text : E → Batch → List ℕ) (contents : E → Option (List ℕ)) → Tells calls text contents
+    → (most : ℕ) (start : Progress T E) (ticker : T) (stopped : Option StopCause) (kept : Option CollectorValue) (counts : Tally E)
+    → IsRun gives by calls most start ticker stopped kept counts
     → HandsOnToEnd (text start.counts.exporter) (shown contents start.counts) (shown contents counts)
-run_hands_on gives collects last calls text contents tells most start ticker stopped kept counts run =
+run_hands_on gives by calls text contents tells most start ticker stopped kept counts run =
     let t = text start.counts.exporter in
-    let reads = run.reads in
-    let turns = handed_turns gives collects calls text contents tells t reads.turns.made start _ refl reads.turns.turns in
-    let after = handed_collected calls.exports text contents tells.appending t reads.after_turns reads.before_retry reads.collected turns.1 reads.exported in
-    let tried = hands_on_nothing t _ _ (retried_nothing calls.retries contents tells.trying reads.before_retry run.before_shutdown reads.retried) in
+    let turns = handed_turns gives by calls text contents tells t run.turns.made start _ refl run.turns.turns in
+    let after = handed_collected calls.exports text contents tells.appending t run.after_turns run.before_retry run.collected turns.1 run.exported in
+    let tried = hands_on_nothing t _ _ (retried_nothing calls.retries contents tells.trying run.before_retry run.before_shutdown run.retried) in
     record {
       before = shown contents run.before_shutdown;
       hands_on = hands_on_more t _ _ _ (hands_on_more t _ _ _ turns.0 after.0) tried;
@@ -196,14 +194,11 @@ refused_kept exports p now seat kept a b (Ok batches) collects exported some =
 refused_kept exports p now seat kept a b (Err fault) collects exported some =
     refused_some a.refused b.refused (refused_each exports _ b fault.done.items exported)
 
-pub run_keeps_refused : {T E : Type 0} (gives : Giving T) (collects : Collecting CollectorValue) (calls : Calls E)
-    (p : ProviderValue) (most : ℕ) (start : Progress T CollectorValue E) (ticker : T)
-    (stopped : Option StopCause) (kept : Option CollectorValue) (counts : Tally E)
-    → IsRun gives collects (CollectsLast p) calls most start ticker stopped kept counts
-    → IsSome kept → 0 < counts.refused
-run_keeps_refused gives collects calls p most start ticker stopped kept counts run some =
-    let reads = run.reads in
-    let refused : 0 < reads.before_retry.refused =
-    refused_kept calls.exports p _ reads.seat kept reads.after_turns reads.before_retry reads.collected reads.collects_at reads.exported some in
-    let same : counts.refused ≡ reads.before_retry.refused = run.shut_down.refused ∙ ap (λ (tally : Tally _). tally.refused) reads.retried.counts in
+pub run_keeps_refused : {T E : Type 0} (gives : Giving T) (calls : Calls E) (p : ProviderValue) (most : ℕ) (start : Progress T E)
+    (ticker : T) (stopped : Option StopCause) (kept : Option CollectorValue) (counts : Tally E)
+    → IsRun gives p calls most start ticker stopped kept counts → IsSome kept → 0 < counts.refused
+run_keeps_refused gives calls p most start ticker stopped kept counts run some =
+    let refused : 0 < run.before_retry.refused =
+    refused_kept calls.exports p _ run.seat kept run.after_turns run.before_retry run.collected run.collects_at run.exported some in
+    let same : counts.refused ≡ run.before_retry.refused = run.shut_down.refused ∙ ap (λ (tally : Tally _). tally.refused) run.retried.counts in
     rw same refused

@@ -10,15 +10,6 @@ use Rattle.metric_seat.specs.Seats.{CollectorValue, ProviderValue, is_collector_
 abbrev pub Collected : Type 0
 Collected = Result (Vec Batch Global) AllFault
 
--- what is said of a collection: the moment that it is made at, the seat
--- before and after it, and the answer
-abbrev pub Collecting : Type 0 → Type 1
-Collecting C = ℕ → C → C → Collected → Type 0
-
--- the same of the last one, by the seat that is kept after it
-abbrev pub CollectingLast : Type 0 → Type 1
-CollectingLast C = ℕ → C → Option C → Collected → Type 0
-
 -- the batches that a collection gave, also where it was refused before its end
 abbrev pub batches_of : Collected → List Batch
 batches_of (Ok batches) = batches.items
@@ -32,7 +23,7 @@ pub record AreNextBatches (p : ProviderValue) (seat : CollectorValue) (now : ℕ
   pub all : length batches ≡ length p.plan.facts.instruments
 
 -- a collection at a moment with a seat, which has then seen the batches that it gave
-abbrev pub Collects : ProviderValue → Collecting CollectorValue
+abbrev pub Collects : ProviderValue → ℕ → CollectorValue → CollectorValue → Collected → Type 0
 Collects p now old new (Ok batches) =
     AreNextBatches p old now batches.items × (new ≡ with_all_seen old batches.items)
 Collects p now old new (Err fault) =
@@ -40,7 +31,8 @@ Collects p now old new (Err fault) =
     × (new ≡ with_all_seen old fault.done.items)
 
 -- the last collection with a seat, which is kept only where it was refused
-abbrev pub CollectsLast : ProviderValue → CollectingLast CollectorValue
+abbrev pub CollectsLast : ProviderValue → ℕ → CollectorValue → Option CollectorValue → Collected
+    → Type 0
 CollectsLast p now old kept (Ok batches) = AreNextBatches p old now batches.items × (kept ≡ None)
 CollectsLast p now old kept (Err fault) =
     AllRefused p old now fault.done.items fault.instrument fault.refusal

@@ -4,7 +4,7 @@ ghost use Rattle.metric_export.specs.ExporterCalls.{IsExport, IsFlush, IsRetry, 
 ghost use Rattle.metric_periodic.specs.Counts.{delayed_after, exported_after, refused_after};
 ghost use Rattle.metric_export.specs.Handings.{HandsOnInOrder, TakesOrRefuses};
 ghost use Rattle.metric_periodic.specs.Exported.{Answered, ExportsCollected, ExportsEach, Flushes};
-ghost use Rattle.metric_periodic.specs.Exported.{Retries, RetriesWhere, ShutsDown, tally, with_refusal};
+ghost use Rattle.metric_periodic.specs.Exported.{Retries, RetriesWhere, ShutsDown, failed_after, tally, with_refusal};
 
 use crate::counts::Listener;
 use metric_export::{ExportFault, Handed, MetricExporter};
@@ -58,21 +58,6 @@ impl<E: MetricExporter> Exports<E> {
             refused: 0,
             unflushed: 0,
         }
-    }
-
-    /// The exporter.
-    pub(crate) fn into_exporter(self) -> E
-        ensures { result ≡ self.exporter }
-    {
-        let Exports {
-            exporter,
-            exported: _,
-            failed: _,
-            delayed: _,
-            refused: _,
-            unflushed: _,
-        } = self;
-        exporter
     }
 
     /// Hands on what a collection gave, also where it was refused before its end.
@@ -220,9 +205,7 @@ impl<E: MetricExporter> Exports<E> {
         ensures { Flushes (IsFlush E.MetricExporter) self.old self.new result }
     {
         let answer = self.exporter.force_flush();
-        if answer.is_err() {
-            self.unflushed = self.unflushed.saturating_add(1);
-        }
+        self.unflushed = failed_after(self.unflushed, &answer);
         answer
     }
 
@@ -239,8 +222,17 @@ impl<E: MetricExporter> Exports<E> {
     pub(crate) fn shut_down(&mut self)
         ensures { ShutsDown (IsShutdown E.MetricExporter) self.old self.new }
     {
-        if self.exporter.shutdown().is_err() {
-            self.failed = self.failed.saturating_add(1);
-        }
+        let answer = self.exporter.shutdown();
+        self.failed = failed_after(self.failed, &answer);
+    }
+}
+
+// The failed calls after one with this answer.
+fn failed_after(failed: u64, answer: &Result<(), ExportFault>) -> u64
+    ensures { result ≡ failed_after failed answer.now }
+{
+    match answer {
+        Ok(()) => failed,
+        Err(_) => failed.saturating_add(1),
     }
 }

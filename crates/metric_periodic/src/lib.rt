@@ -7,7 +7,6 @@
 #![tactic(auto)]
 
 mod clock_ticker;
-mod collect;
 mod collecting;
 mod counts;
 mod driving;
@@ -39,3 +38,4 @@ pub use outlets::Outlets;
 pub use periodic::{Periodic, PeriodicEnd};
 pub use stop_flag::StopFlag;
 pub use tick::{StopCause, Tick, Ticker};
+pub use watch::now;

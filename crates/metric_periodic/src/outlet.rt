@@ -196,7 +196,7 @@ impl<E: MetricExporter> Outlet<E> {
             due: _,
         } = self;
         let Showing { seat, shown: _ } = showing;
-        (seat, exports.into_exporter())
+        (seat, exports.exporter)
     }
 
     /// The batches that the exporter took in all runs, up to 2^64 - 1.

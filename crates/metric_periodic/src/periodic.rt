@@ -3,7 +3,6 @@ ghost use Rattle.std.specs.Prelude.{◌≡◌, ◌+◌, ◌<◌, ◌≤◌, IsSo
 ghost use Rattle.metric_io.specs.Counts.{higher_count};
 ghost use Rattle.metric_export.specs.ExporterCalls.{calls_of};
 ghost use Rattle.metric_export.specs.declared.state.ExporterState.{ExporterState};
-ghost use Rattle.metric_periodic.specs.Collections.{Collects, CollectsLast};
 ghost use Rattle.metric_periodic.specs.Counts.{HandsOnToEnd, handed};
 ghost use Rattle.metric_periodic.specs.Exported.{tally};
 ghost use Rattle.metric_periodic.specs.Runs.{IsRun};
@@ -91,7 +90,7 @@ impl<E: MetricExporter> Periodic<E> {
         collector: Collector,
         ticker: &mut T,
     ) -> PeriodicEnd<E>
-        ensures run { IsRun T.next_gives (Collects provider.now) (CollectsLast provider.now)
+        ensures run { IsRun T.next_gives provider.now
             (calls_of E.MetricExporter provider.now.plan) self.turns
             (progress ticker.old 0 collector (tally self.exporter 0 0 0 0 0))
             ticker.new result.stopped result.kept
@@ -126,7 +125,7 @@ impl<E: MetricExporter> Periodic<E> {
         ticker: &mut T,
         counts: &RunningCounts,
     ) -> PeriodicEnd<E>
-        ensures run { IsRun T.next_gives (Collects provider.now) (CollectsLast provider.now)
+        ensures run { IsRun T.next_gives provider.now
             (calls_of E.MetricExporter provider.now.plan) self.turns
             (progress ticker.old 0 collector (tally self.exporter 0 0 0 0 0))
             ticker.new result.stopped result.kept
@@ -147,13 +146,11 @@ impl<E: MetricExporter> Periodic<E> {
             exports: Exports::new(exporter),
             listener: counts,
         };
-        let plan = provider.plan();
-        let ended = read_to_end(rt, alloc, plan, provider, turns, reading, ticker);
         let Ended {
             exports,
             stopped,
             kept,
-        } = ended;
+        } = read_to_end(rt, alloc, provider, turns, reading, ticker);
         PeriodicEnd {
             exporter: exports.exporter,
             exported: exports.exported,

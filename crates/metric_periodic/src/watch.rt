@@ -5,6 +5,7 @@ ghost use Rattle.std.specs.Time.{system_time_nanos};
 ghost use Rattle.metric_periodic.specs.declared.watch.Waited.{Waited};
 
 use crate::stop_flag::StopFlag;
+use std::io;
 use std::sync::Wait;
 use std::time::{Clock, Duration, SystemTime, UNIX_EPOCH};
 
@@ -54,8 +55,18 @@ impl<R: Wait + Clock> Watch for FlagAndClock<'_, R> {
     }
 
     fn moment(&self) -> Option<u64> {
-        Some(nanoseconds_at(SystemTime::now(self.rt).ok()?))
+        now(self.rt).ok()
     }
+}
+
+/// The system's clock in nanoseconds since 1970, as a [`ClockTicker`](crate::ClockTicker) gives it: 2^64 - 1 if there
+/// are more, after the year 2554. Nothing is proved about the clock.
+///
+/// # Errors
+///
+/// If the clock cannot be read, or shows a time before 1970.
+pub fn now<R: Clock>(rt: &R) -> io::Result<u64> {
+    Ok(nanoseconds_at(SystemTime::now(rt)?))
 }
 
 // The nanoseconds from 1970 to a time, 2^64 - 1 where there are more.

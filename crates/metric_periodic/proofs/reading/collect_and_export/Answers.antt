@@ -8,8 +8,8 @@ returns-clause-collected g c = record {
   exported = record {
     between = c.hand_on_collected.new.self;
     settled = c.retry_where.new.self;
-    exported = c.hand_on_collected.ensures;
-    retried = rw (← c.is_retried-is_due.ensures) c.retry_where.ensures;
+    exported = rw (c.plan.ensures) at c.hand_on_collected.ensures;
+    retried = rw (← c.is_retried-is_due.ensures) (rw (c.plan-2.ensures) at c.retry_where.ensures);
     flushed = c.flush-counted.ensures.0;
   };
 }

@@ -10,8 +10,8 @@ invariant-loop-turn g l =
     record {
       most : g.T.Ticker.asked l.ticker ≤ g.T.Ticker.asked l.fn.ticker + l._turn;
       least : higher_count (g.T.Ticker.asked l.fn.ticker) l._turn ≤ g.T.Ticker.asked l.ticker;
-      turns : AreTurns g.T.Ticker.next_gives (g.C.Collect.collects l.provider)
-          (calls_of g.E.MetricExporter l.plan) l._turn
+      turns : AreTurns g.T.Ticker.next_gives l.provider
+          (calls_of g.E.MetricExporter l.provider.plan) l._turn
           (progress l.fn.ticker 0 l.fn.reading.seat l.fn.reading.exports)
           (progress l.ticker l.last l.reading.seat l.reading.exports);
     }
