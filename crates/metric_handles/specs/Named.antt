@@ -1,6 +1,6 @@
 -- The instrument that a meter's name, a name, a kind and a list of keys are of, or the first fault.
 use Rattle.std.specs.Prelude.{ℕ, ◌+◌, Bool, false, not, ◌&&◌, List, [], ◌∷◌, Option, None, Some}
-use Rattle.std.specs.Prelude.{Result, Ok, drop, slice_get, if◌then◌else◌}
+use Rattle.std.specs.Prelude.{Result, Err, Ok, drop, slice_get, if◌then◌else◌}
 use Rattle.std.specs.List.{list_any, position_from}
 use Rattle.std.specs.Option.{option_map_or}
 use Rattle.std.specs.Str.{bytes_eq}
@@ -16,6 +16,7 @@ use Rattle.metric_plan.specs.Plans.{PlanValue, print_of}
 use Rattle.metric_views.specs.Selection.{is_kind}
 use Rattle.metric_handles.specs.Bounds.{HandleValue}
 use Rattle.metric_handles.specs.declared.fault.HandleFault.{HandleFault}
+use Rattle.metric_handles.specs.declared.fault.NoHandle.{NoHandle}
 use Rattle.metric_handles.specs.declared.fault.HandleFault.TheVariants.{
   UnknownMeter,
   UnknownInstrument,
@@ -104,3 +105,8 @@ abbrev pub handle_in : PlanValue → Kind → List ℕ → List ℕ → List (Li
 handle_in plan kind meter name keys =
     handle_of plan.facts.contents kind meter name keys >>= λ number.
     Ok (record { plan = print_of plan; number = number })
+
+-- the same, where the fault comes with words
+abbrev pub is_found : Result HandleValue NoHandle → Result HandleValue HandleFault
+is_found (Ok handle) = Ok handle
+is_found (Err none) = Err none.fault

@@ -1,10 +1,7 @@
 //! A seat that counts what it is refused.
-ghost use Rattle.std.specs.Prelude.{◌≡◌, ◌<◌, ◌≤◌, ◌+◌, IfErr, IfOk, length, map, replicate, slice_index_or, slice_set};
-ghost use Rattle.metric_contents.specs.Attributes.{given_by};
+ghost use Rattle.std.specs.Prelude.{◌≡◌, ◌<◌, ◌≤◌, ◌+◌, IfErr, IfOk, length, replicate, slice_index_or, slice_set};
 ghost use Rattle.metric_contents.specs.Refusals.{number_of};
-ghost use Rattle.metric_seat.specs.KeyRecordings.{admitted_key};
-ghost use Rattle.metric_seat.specs.Recordings.{admitted};
-ghost use Rattle.metric_handles.specs.Calls.{MakesRecording, MakesRecordings, answer_of, untried_of};
+ghost use Rattle.metric_handles.specs.Calls.{untried_of};
 ghost use Rattle.metric_handles.specs.Counts.{CountsAnswer, count_in, counted_of, counts_after, counts_of, no_counts, place_of, refused_before};
 
 use crate::recorded::Recorded;
@@ -165,74 +162,6 @@ impl<S> Counted<S> {
     }
 }
 
-impl<S: Seat> Counted<S> {
-    /// Makes a recording: [`Seat::record`] of the seat. A refusal is counted, and answered.
-    pub fn record<R: Wait, B: Book, G: Gate>(
-        &mut self,
-        rt: &R,
-        provider: &Provider<B, G>,
-        instrument: u32,
-        attrs: &[Attr<'_>],
-        value: i64,
-    ) -> Result<(), Refusal>
-        ensures made { let given = map given_by attrs.now in
-            let admission = admitted provider.now (S.seat self.old.seat) instrument given value in
-            MakesRecording B.KEEPS_ENTRIES B.spares_memory provider.now
-            (S.seat self.old.seat) (S.seat self.new.seat) instrument value admission result }
-        ensures noted { CountsAnswer S.notes self.old self.new instrument 0 result }
-        ensures handed { S.records provider.now self.old.seat self.new.seat instrument
-            (map given_by attrs.now) value result }
-    {
-        let answer = self.seat.record(rt, provider, instrument, attrs, value);
-        self.count(instrument, 0, &answer);
-        answer
-    }
-
-    /// The same by a set key: [`Seat::record_set`] of the seat. A refusal is counted, and answered.
-    pub fn record_set<R: Wait, B: Book, G: Gate>(
-        &mut self,
-        rt: &R,
-        provider: &Provider<B, G>,
-        instrument: u32,
-        set: SetKey,
-        value: i64,
-    ) -> Result<(), Refusal>
-        ensures made { let old = S.seat self.old.seat in
-            let admission = admitted_key provider.now old instrument set value in
-            MakesRecording B.KEEPS_ENTRIES B.spares_memory provider.now
-            old (S.seat self.new.seat) instrument value admission result }
-        ensures noted { CountsAnswer S.notes self.old self.new instrument 0 result }
-        ensures handed { S.records_set provider.now self.old.seat self.new.seat instrument set value
-            result }
-    {
-        let answer = self.seat.record_set(rt, provider, instrument, set, value);
-        self.count(instrument, 0, &answer);
-        answer
-    }
-
-    /// The same of recordings by set keys under one lock: [`Seat::record_sets`] of the seat. The refusal is
-    /// counted, and how many stand behind it, and it is answered with its place.
-    pub fn record_sets<R: Wait, B: Book, G: Gate>(
-        &mut self,
-        rt: &R,
-        provider: &Provider<B, G>,
-        instrument: u32,
-        all: &[Measurement],
-    ) -> Result<(), SetsFault>
-        ensures made { MakesRecordings B.KEEPS_ENTRIES B.spares_memory provider.now
-            (S.seat self.old.seat) (S.seat self.new.seat) instrument all.now result }
-        ensures noted { let untried = untried_of all.now result in
-            CountsAnswer S.notes self.old self.new instrument untried (answer_of result) }
-        ensures handed { S.records_sets provider.now self.old.seat self.new.seat instrument all.now
-            result }
-    {
-        let answer = self.seat.record_sets(rt, provider, instrument, all);
-        let untried = untried_of(all, &answer);
-        self.count(instrument, untried, &answer.map_err(|fault| fault.refusal));
-        answer
-    }
-}
-
 impl<S: Seat> Seat for Counted<S> {
     ghost seat = { λ counted. S.seat counted.seat };
 
@@ -244,7 +173,6 @@ impl<S: Seat> Seat for Counted<S> {
 
     ghost records_sets = { λ p old new. S.records_sets p old.seat new.seat };
 
-    #[inline(always)]
     fn record<R: Wait, B: Book, G: Gate>(
         &mut self,
         rt: &R,
@@ -253,10 +181,11 @@ impl<S: Seat> Seat for Counted<S> {
         attrs: &[Attr<'_>],
         value: i64,
     ) -> Result<(), Refusal> {
-        Counted::record(self, rt, provider, instrument, attrs, value)
+        let answer = self.seat.record(rt, provider, instrument, attrs, value);
+        self.count(instrument, 0, &answer);
+        answer
     }
 
-    #[inline(always)]
     fn record_set<R: Wait, B: Book, G: Gate>(
         &mut self,
         rt: &R,
@@ -265,10 +194,11 @@ impl<S: Seat> Seat for Counted<S> {
         set: SetKey,
         value: i64,
     ) -> Result<(), Refusal> {
-        Counted::record_set(self, rt, provider, instrument, set, value)
+        let answer = self.seat.record_set(rt, provider, instrument, set, value);
+        self.count(instrument, 0, &answer);
+        answer
     }
 
-    #[inline(always)]
     fn record_sets<R: Wait, B: Book, G: Gate>(
         &mut self,
         rt: &R,
@@ -276,7 +206,10 @@ impl<S: Seat> Seat for Counted<S> {
         instrument: u32,
         all: &[Measurement],
     ) -> Result<(), SetsFault> {
-        Counted::record_sets(self, rt, provider, instrument, all)
+        let answer = self.seat.record_sets(rt, provider, instrument, all);
+        let untried = untried_of(all, &answer);
+        self.count(instrument, untried, &answer.map_err(|fault| fault.refusal));
+        answer
     }
 }
 

@@ -1,5 +1,8 @@
 //! Why there is no handle.
+ghost use Rattle.std.specs.Prelude.{◌≡◌};
+
 use metric_contents::Kind;
+use std::fmt::{self, InlineText};
 use thiserror::Error;
 
 /// Why a name, a kind and keys are of no instrument, in the order in which the faults are tried. Places are counted
@@ -28,4 +31,59 @@ pub enum HandleFault {
     /// The instrument's key at this declared place may not be left out, and is not in the list.
     #[error("declared key {0} is not in the list, and may not be left out")]
     MissingKey(usize),
+}
+
+/// Why there is no handle, in words that name the meter, the instrument, and the key where it is about one.
+#[derive(Clone, Copy)]
+pub struct NoHandle {
+    /// Why.
+    pub fault: HandleFault,
+    words: InlineText<200>,
+}
+
+impl NoHandle {
+    // Why there is none of these names, and the key that the fault is about.
+    pub(crate) fn new(meter: &str, name: &str, key: Option<&str>, fault: HandleFault) -> NoHandle
+        ensures { result.fault ≡ fault }
+    {
+        let words = InlineText::of(About {
+            meter,
+            name,
+            key,
+            fault,
+        });
+        NoHandle { fault, words }
+    }
+}
+
+impl fmt::Display for NoHandle {
+    fn fmt<W: fmt::Write>(&self, f: &mut fmt::Formatter<W>) -> fmt::Result {
+        f.write_str(self.words.as_str())
+    }
+}
+
+impl fmt::Debug for NoHandle {
+    fn fmt<W: fmt::Write>(&self, f: &mut fmt::Formatter<W>) -> fmt::Result {
+        f.write_str(self.words.as_str())
+    }
+}
+
+impl std::error::Error for NoHandle {}
+
+#[derive(Clone, Copy)]
+struct About<'a> {
+    meter: &'a str,
+    name: &'a str,
+    key: Option<&'a str>,
+    fault: HandleFault,
+}
+
+impl fmt::Display for About<'_> {
+    fn fmt<W: fmt::Write>(&self, f: &mut fmt::Formatter<W>) -> fmt::Result {
+        write!(f, "{}/{}: {}", self.meter, self.name, self.fault)?;
+        match self.key {
+            Some(key) => write!(f, ": {key}"),
+            None => Ok(()),
+        }
+    }
 }

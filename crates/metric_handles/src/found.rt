@@ -5,11 +5,11 @@ ghost use Rattle.std.specs.Option.{option_copied};
 ghost use Rattle.std.specs.Str.{bytes_eq};
 ghost use Rattle.metric_contents.specs.Attributes.{given_by};
 ghost use Rattle.metric_contents.specs.Encoding.{entry_at, entry_with, has_repeated_key, is_declared, is_of};
-ghost use Rattle.metric_contents.specs.KeyNames.{is_key};
 ghost use Rattle.metric_names.specs.Names.{folded};
 ghost use Rattle.metric_names.specs.Values.{value_of as given_value};
 ghost use Rattle.metric_handles.specs.Found.{has_name, have_entries, is_entry, is_exactly, is_point, is_stream_named, value_at, value_in, value_in_streams, value_of};
 
+use crate::named::has_key;
 use metric_aggregate::PointValue;
 use metric_contents::{Attr, Key};
 use metric_history::{Batch, Point, StreamPoints};
@@ -175,12 +175,6 @@ fn are_all_declared(keys: &[Key], attrs: &[Attr<'_>]) -> bool
     ensures { result ≡ list_all (λ attr. is_declared keys.now (given_by attr)) attrs.now }
 {
     attrs.iter().all(|attr| has_key(keys, attr.key))
-}
-
-fn has_key(keys: &[Key], name: &str) -> bool
-    ensures { result ≡ list_any (is_key name.now) keys.now }
-{
-    keys.iter().any(|key| key.name.as_str() == name)
 }
 
 // Whether each key's entry is that of the attribute of the key.

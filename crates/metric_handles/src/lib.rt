@@ -39,7 +39,7 @@ pub use bound::{Bound, BoundCounter, BoundGauge, BoundHistogram, BoundUpDownCoun
 pub use bound_list::{BoundList, ListFault};
 pub use budget::left;
 pub use counted::Counted;
-pub use fault::HandleFault;
+pub use fault::{HandleFault, NoHandle};
 pub use found::value_of;
 pub use handle::{Counter, Gauge, Handle, Histogram, UpDownCounter};
 pub use jobs::Need;

@@ -4,9 +4,9 @@ ghost use Rattle.std.specs.List.{list_any, position_from};
 ghost use Rattle.metric_contents.specs.declared.contents.Kind.TheVariants as kinds;
 ghost use Rattle.metric_contents.specs.KeyNames.{is_key};
 ghost use Rattle.metric_views.specs.Selection.{is_kind};
-ghost use Rattle.metric_handles.specs.Named.{checked, handle_in, handle_of, is_meter_named, is_missing, is_named, is_of_meter, is_text, is_undeclared, keys_checked, number_named, repeated_from, unknown_of};
+ghost use Rattle.metric_handles.specs.Named.{checked, handle_in, handle_of, is_found, is_meter_named, is_missing, is_named, is_of_meter, is_text, is_undeclared, keys_checked, number_named, repeated_from, unknown_of};
 
-use crate::fault::HandleFault;
+use crate::fault::{HandleFault, NoHandle};
 use crate::handle::{Counter, Gauge, Handle, Histogram, UpDownCounter};
 use metric_catalogue::Catalogue;
 use metric_contents::{Instrument, Key, Kind, Meter};
@@ -23,16 +23,16 @@ use metric_plan::Plan;
 ///
 /// # Errors
 ///
-/// The first [`HandleFault`], in the order in which it lists them: of the names, of the kind, and of the keys, each
-/// tried over the whole list before the next. So a catalogue that renames an instrument or a key, takes another kind or
+/// [`NoHandle`] with the first [`HandleFault`], in the order in which it lists them: of the names, of the kind, and of
+/// the keys, each tried over the whole list before the next. It says in words which meter, instrument and key it is
+/// about. So a catalogue that renames an instrument or a key, takes another kind or
 /// declares one more key that may not be left out is refused before anything is recorded, and one in another order
 /// makes no difference.
-pub fn counter(plan: &Plan, meter: &str, name: &str, keys: &[&str]) -> Result<Counter, HandleFault>
+pub fn counter(plan: &Plan, meter: &str, name: &str, keys: &[&str]) -> Result<Counter, NoHandle>
     ensures { let keys = map (λ key. key.now) keys.now in
-        result ≡ handle_in plan.now kinds.Counter meter.now name.now keys }
+        is_found result ≡ handle_in plan.now kinds.Counter meter.now name.now keys }
 {
-    let number = handle_of(plan.catalogue(), Kind::Counter, meter, name, keys)?;
-    Ok(Handle::of(plan, number))
+    look_up(plan, Kind::Counter, meter, name, keys)
 }
 
 /// The same of an up-down counter (Metrics API, UpDownCounter creation).
@@ -45,12 +45,11 @@ pub fn up_down_counter(
     meter: &str,
     name: &str,
     keys: &[&str],
-) -> Result<UpDownCounter, HandleFault>
+) -> Result<UpDownCounter, NoHandle>
     ensures { let keys = map (λ key. key.now) keys.now in
-        result ≡ handle_in plan.now kinds.UpDownCounter meter.now name.now keys }
+        is_found result ≡ handle_in plan.now kinds.UpDownCounter meter.now name.now keys }
 {
-    let number = handle_of(plan.catalogue(), Kind::UpDownCounter, meter, name, keys)?;
-    Ok(Handle::of(plan, number))
+    look_up(plan, Kind::UpDownCounter, meter, name, keys)
 }
 
 /// The same of a histogram (Metrics API, Histogram creation).
@@ -58,17 +57,11 @@ pub fn up_down_counter(
 /// # Errors
 ///
 /// Those of [`counter`].
-pub fn histogram(
-    plan: &Plan,
-    meter: &str,
-    name: &str,
-    keys: &[&str],
-) -> Result<Histogram, HandleFault>
+pub fn histogram(plan: &Plan, meter: &str, name: &str, keys: &[&str]) -> Result<Histogram, NoHandle>
     ensures { let keys = map (λ key. key.now) keys.now in
-        result ≡ handle_in plan.now kinds.Histogram meter.now name.now keys }
+        is_found result ≡ handle_in plan.now kinds.Histogram meter.now name.now keys }
 {
-    let number = handle_of(plan.catalogue(), Kind::Histogram, meter, name, keys)?;
-    Ok(Handle::of(plan, number))
+    look_up(plan, Kind::Histogram, meter, name, keys)
 }
 
 /// The same of a gauge (Metrics API, Gauge creation).
@@ -76,12 +69,52 @@ pub fn histogram(
 /// # Errors
 ///
 /// Those of [`counter`].
-pub fn gauge(plan: &Plan, meter: &str, name: &str, keys: &[&str]) -> Result<Gauge, HandleFault>
+pub fn gauge(plan: &Plan, meter: &str, name: &str, keys: &[&str]) -> Result<Gauge, NoHandle>
     ensures { let keys = map (λ key. key.now) keys.now in
-        result ≡ handle_in plan.now kinds.Gauge meter.now name.now keys }
+        is_found result ≡ handle_in plan.now kinds.Gauge meter.now name.now keys }
 {
-    let number = handle_of(plan.catalogue(), Kind::Gauge, meter, name, keys)?;
-    Ok(Handle::of(plan, number))
+    look_up(plan, Kind::Gauge, meter, name, keys)
+}
+
+// The handle of the instrument that all this is of, or the first fault, with what it is about.
+fn look_up<K>(
+    plan: &Plan,
+    kind: Kind,
+    meter: &str,
+    name: &str,
+    keys: &[&str],
+) -> Result<Handle<K>, NoHandle>
+    ensures { let keys = map (λ key. key.now) keys.now in
+        is_found result ≡ handle_in plan.now kind meter.now name.now keys }
+{
+    match handle_of(plan.catalogue(), kind, meter, name, keys) {
+        Ok(number) => Ok(Handle::of(plan, number)),
+        Err(fault) => {
+            let key = key_of(plan.catalogue(), meter, name, keys, fault);
+            Err(NoHandle::new(meter, name, key, fault))
+        }
+    }
+}
+
+// The key that a fault is about.
+fn key_of<'a>(
+    catalogue: &'a Catalogue,
+    meter: &str,
+    name: &str,
+    keys: &[&'a str],
+    fault: HandleFault,
+) -> Option<&'a str> {
+    match fault {
+        HandleFault::RepeatedKey(place) | HandleFault::UnknownKey(place) => {
+            keys.get(place).copied()
+        }
+        HandleFault::MissingKey(place) => {
+            let number = number_named(catalogue, meter, name).ok()?;
+            let instrument = catalogue.instruments().get(number)?;
+            Some(instrument.keys.as_slice().get(place)?.name.as_str())
+        }
+        _ => None,
+    }
 }
 
 // The number of the instrument that all this is of, or the first fault.
@@ -253,7 +286,7 @@ fn is_undeclared(declared: &[Key], name: &str) -> bool
     !has_key(declared, name)
 }
 
-fn has_key(keys: &[Key], name: &str) -> bool
+pub(crate) fn has_key(keys: &[Key], name: &str) -> bool
     ensures { result ≡ list_any (is_key name.now) keys.now }
 {
     keys.iter().any(|key| key.name.as_str() == name)

@@ -3,7 +3,7 @@ use crate::asserted::OrFail;
 use crate::page::Page;
 use crate::services::{Service, counted};
 use metric_handles::{
-    BoundCounter, BoundList, Counted, Counter, Handle, HandleFault, Replaced, Seat,
+    BoundCounter, BoundList, Counted, Counter, Handle, NoHandle, Replaced, Seat,
     compared_keys_are_bound, compared_keys_are_recorded, counter, gauge, histogram, left,
     take_reader, take_recorder, up_down_counter, value_of,
 };
@@ -86,54 +86,54 @@ const ASKED: &[Asked] = &[
         "Shop",
         "orders",
         &["country"],
-        "the catalogue has no meter of this name\n",
+        "Shop/orders: the catalogue has no meter of this name\n",
     ),
     (
         Kind::UpDownCounter,
         "shop",
         "inside",
         &[],
-        "the meter has no instrument of this name\n",
+        "shop/inside: the meter has no instrument of this name\n",
     ),
     (
         Kind::UpDownCounter,
         "shop",
         "waiting",
         &[],
-        "instrument 1 is not the only one of this name in meters of this name\n",
+        "shop/waiting: instrument 1 is not the only one of this name in meters of this name\n",
     ),
     (
         Kind::Gauge,
         "shop",
         "orders",
         &["country"],
-        "the instrument is declared as Counter\n",
+        "shop/orders: the instrument is declared as Counter\n",
     ),
     (
         Kind::Counter,
         "shop",
         "orders",
         &["region", "country", "country"],
-        "key 1 of the list stands again after it\n",
+        "shop/orders: key 1 of the list stands again after it: country\n",
     ),
     (
         Kind::Counter,
         "shop",
         "orders",
         &["paid", "Country"],
-        "key 1 of the list is not declared\n",
+        "shop/orders: key 1 of the list is not declared: Country\n",
     ),
     (
         Kind::Counter,
         "shop",
         "orders",
         &["paid"],
-        "declared key 0 is not in the list, and may not be left out\n",
+        "shop/orders: declared key 0 is not in the list, and may not be left out: country\n",
     ),
 ];
 
 // Writes the number of a handle, or why there is none.
-fn tell_found<R: Abort, K: Drop>(page: &mut Page<'_, R>, found: Result<Handle<K>, HandleFault>) {
+fn tell_found<R: Abort, K: Drop>(page: &mut Page<'_, R>, found: Result<Handle<K>, NoHandle>) {
     match found {
         Ok(handle) => page.say(handle.number()),
         Err(fault) => page.say(fault),
