@@ -63,7 +63,9 @@ abbrev pub IsUntoldBy : {O : Type 0} → (ℕ → ℕ → Bool) → Option ℕ �
     → BuilderValue O → TellFault → Type 0
 IsUntoldBy takes None old new tell.UnknownReader = new ≡ old
 IsUntoldBy takes None old new (tell.Exporter why) = ⊥
+IsUntoldBy takes None old new (tell.Untold reader) = ⊥
 IsUntoldBy takes (Some place) old new tell.UnknownReader = ⊥
+IsUntoldBy takes (Some place) old new (tell.Untold reader) = ⊥
 IsUntoldBy takes (Some place) old new (tell.Exporter why) =
     (seat : CollectorValue) × ((slice_get old.readers place ≡ Some seat)
     × ((new.service ≡ old.service) × (IsBackIn (others_of old.readers (Some place)) seat new.readers

@@ -1,5 +1,5 @@
 //! What is left of a service whose run did not end cleanly.
-use crate::service::{Service, TellFault, TellLeft, Untold};
+use crate::service::{Service, TellFault, TellLeft};
 use metric_export::ExportFault;
 use metric_history::Book;
 use metric_periodic::ReaderEnd;
@@ -53,6 +53,31 @@ pub struct Unended<O, B: Book, G: Gate> {
     pub fault: UnendedFault,
 }
 
+impl<O, B: Book, G: Gate> Unended<O, B, G> {
+    // The name of the first recorder whose seat is missing, where that is why.
+    fn missing(&self) -> Option<&str> {
+        let is_missing = matches!(
+            self.fault,
+            UnendedFault::Finish(FinishFault::RecorderMissing)
+                | UnendedFault::Roll(RollFault::Finish(FinishFault::RecorderMissing))
+        );
+        if !is_missing {
+            return None;
+        }
+        let declared = self.service.plan().catalogue().recorders();
+        for (number, recorder) in declared.iter().enumerate() {
+            if !self
+                .recorders
+                .iter()
+                .any(|seat| seat.number() as usize == number)
+            {
+                return Some(recorder.name.as_str());
+            }
+        }
+        None
+    }
+}
+
 /// What is left where a run did not end cleanly: of a roll-over the [`NextRun`] or of an end what was [`Ended`], if the
 /// run ended, and whatever else is left.
 #[derive(Drop)]
@@ -74,7 +99,12 @@ impl<T: Drop, O: Drop, B: Book, G: Gate> fmt::Display for Left<T, O, B, G> {
     fn fmt<W: fmt::Write>(&self, f: &mut fmt::Formatter<W>) -> fmt::Result {
         match &self.done {
             Ok(_) => f.write_str("ended")?,
-            Err(unended) => write!(f, "not ended: {}", unended.fault)?,
+            Err(unended) => {
+                write!(f, "not ended: {}", unended.fault)?;
+                if let Some(recorder) = unended.missing() {
+                    write!(f, ": {recorder}")?;
+                }
+            }
         }
         if !self.is_counted {
             f.write_str("; recordings after the last collection")?;
@@ -114,6 +144,9 @@ impl fmt::Display for TellFault {
     fn fmt<W: fmt::Write>(&self, f: &mut fmt::Formatter<W>) -> fmt::Result {
         match self {
             TellFault::UnknownReader => f.write_str("no such reader, or it has its exporter"),
+            TellFault::Untold(reader) => {
+                write!(f, "reader {reader} has no exporter, and is not ignored")
+            }
             TellFault::Exporter(ExportFault::OtherReader) => {
                 f.write_str("the exporter was made for another reader")
             }
@@ -135,18 +168,3 @@ impl<E: Drop, O: Drop, B: Book, G: Gate> fmt::Debug for TellLeft<E, O, B, G> {
 }
 
 impl<E: Drop, O: Drop, B: Book, G: Gate> std::error::Error for TellLeft<E, O, B, G> {}
-
-impl<O: Drop, B: Book, G: Gate> fmt::Display for Untold<O, B, G> {
-    fn fmt<W: fmt::Write>(&self, f: &mut fmt::Formatter<W>) -> fmt::Result {
-        let reader = self.reader;
-        write!(f, "reader {reader} has no exporter, and is not ignored")
-    }
-}
-
-impl<O: Drop, B: Book, G: Gate> fmt::Debug for Untold<O, B, G> {
-    fn fmt<W: fmt::Write>(&self, f: &mut fmt::Formatter<W>) -> fmt::Result {
-        write!(f, "{self}")
-    }
-}
-
-impl<O: Drop, B: Book, G: Gate> std::error::Error for Untold<O, B, G> {}

@@ -49,7 +49,7 @@
 //! [`open`] reads the two texts, makes a certificate that no limit and no number can overflow, checks it, and starts.
 //! It returns a [`MeterProvider`] with a seat for each recorder and each reader, in the order of the texts, or the
 //! first [`SetupFault`]. [`now`] gives the moment of the start, and the one [`Runs`] of a process the number of the
-//! run.
+//! run. [`diagnosed`] makes what is [`Unopened`] of a fault, in words, with its place.
 //!
 //! - [`open_certified`] takes a certificate that somebody else made, and does not trust them.
 //! - [`open_with_lanes`] gives instruments several locks, so that threads recording on one do not wait for each other.
@@ -59,8 +59,8 @@
 //!
 //! [`counter`], [`up_down_counter`], [`histogram`] and [`gauge`] find an instrument of the plan by its meter and its
 //! name, and compare its kind and its keys with what the service is going to record. They return a [`Handle`] of that
-//! kind ([`Counter`] and so on), or a [`HandleFault`] before anything is recorded. [`take_recorder`] and
-//! [`take_reader`] take a seat out of those that `open` returned.
+//! kind ([`Counter`] and so on), or, before anything is recorded, [`NoHandle`] with a [`HandleFault`], in words that name
+//! the instrument. [`take_recorder`] and [`take_reader`] take a seat out of those that `open` returned.
 //!
 //! # Record
 //!
@@ -103,7 +103,7 @@
 //!
 //! An export can fail with an [`ExportFault`]. A [`Queued`] keeps what was refused and retries it before the next
 //! batch, so that the window of a delta reader is not lost; other threads read the [`QueueCounts`] of a [`ToldQueue`].
-//! A [`ReopeningExporter`] opens its sink anew.
+//! A [`ReopeningExporter`] opens its sink anew, such as an [`AddedFile`].
 //!
 //! An [`Outlet`] is a reader's seat and one exporter over all runs (or an [`OutletLeft`]); a service has one for each
 //! reader ([End](#end)). In it, and in [`collect_each`], a [`RefusedInstrument`] of a [`Collection`] hides no other.
@@ -116,7 +116,7 @@
 //! [`write_encoded`] as bytes.
 //!
 //! For Prometheus, an [`Exposition`] has the lines of a page in a [`Dialect`], and a [`PageExporter`] hands the whole
-//! page of one reader to [`Pages`] after each collection, such as a file that node_exporter reads. Two attributes of a
+//! page of one reader to [`Pages`] after each collection, such as a [`PageFile`] that node_exporter reads. Two attributes of a
 //! resource with one label are a [`TargetFault`]. Before anything is recorded, [`expose`] says whether a server would
 //! hold each sample of a reader's pages, and [`expose_to_otlp`] whether each boundary leaves as it is, or the first
 //! [`ExposureFault`].
@@ -139,7 +139,7 @@
 //!
 //! A [`Service`] is a provider with the way out of each reader. [`Service::builder`] takes what `open` gave;
 //! `ServiceBuilder::tell` pairs a reader with its exporter and a period, or hands both back ([`TellLeft`], with a
-//! [`TellFault`]), and `build` names the first reader that is [`Untold`] and not ignored. So no reader is forgotten,
+//! [`TellFault`]), and `build` names the first reader that is not told and not ignored. So no reader is forgotten,
 //! and no exporter gets the batches of two. [`live`] runs workers, each a call of your [`Work`], in threads beside the
 //! [`Outlets`], of which [`make_turns`] makes the turns. `Service::force_flush` lets all export now.
 //!
@@ -197,6 +197,7 @@
 //! point. [`read_all`] and [`write_all`] move a whole text.
 #![tactic(auto)]
 
+mod files;
 mod headline;
 mod leftover;
 mod living;
@@ -208,17 +209,20 @@ mod runs;
 mod service;
 mod service_fault;
 mod tables;
+mod unopened;
 
+pub use files::{AddedFile, PageFile};
 pub use headline::{certified_plans_run_exactly, certified_runs_are_exact};
 pub use leftover::{Ended, Left, NextRun, Unended, UnendedFault};
 pub use living::{Work, live};
 pub use opening::{open, open_audited, open_certified, open_with_lanes};
 pub use provider::{AuditedProvider, MeterProvider};
 pub use run_audit::audit_run;
-pub use runs::{Runs, now};
-pub use service::{Service, ServiceBuilder, TellFault, TellLeft, Untold};
+pub use runs::Runs;
+pub use service::{Service, ServiceBuilder, TellFault, TellLeft};
 pub use service_fault::ServiceFault;
 pub use tables::{audited_tables_are_bounded, tables_are_bounded};
+pub use unopened::{Unopened, diagnosed};
 
 // What is declared.
 pub use metric_base::{Boundaries, Few, Items, Shared, Text};
@@ -253,9 +257,9 @@ pub use metric_facts::Facts;
 pub use metric_handles::{
     Adds, AnySeat, Asking, At, Bound, BoundCounter, BoundGauge, BoundHistogram, BoundList,
     BoundUpDownCounter, Counted, Counter, Gauge, Handle, HandleFault, Histogram, IsCounter,
-    IsGauge, IsHistogram, IsUpDownCounter, ListFault, Need, Recorded, Records, Refused, Replaced,
-    Seat, TimeUnit, TimedFault, Timer, TimerFault, UpDownCounter, counter, gauge, histogram, left,
-    take_reader, take_recorder, up_down_counter, value_of,
+    IsGauge, IsHistogram, IsUpDownCounter, ListFault, Need, NoHandle, Recorded, Records, Refused,
+    Replaced, Seat, TimeUnit, TimedFault, Timer, TimerFault, UpDownCounter, counter, gauge,
+    histogram, left, take_reader, take_recorder, up_down_counter, value_of,
 };
 pub use metric_history::{Batch, Book, Entry, Point, StreamPoints};
 pub use metric_marked::Marked;
@@ -284,6 +288,6 @@ pub use metric_outlets::{
 pub use metric_periodic::{
     ClockTicker, Collection, ListTicker, Outlet, OutletLeft, Outlets, Periodic, PeriodicEnd,
     ReaderEnd, RefusedInstrument, RunningCounts, StopCause, StopFlag, Tick, Ticker, Uncollected,
-    Unexported, collect_each, make_turns, outlets_tell_once,
+    Unexported, collect_each, make_turns, now, outlets_tell_once,
 };
 pub use metric_resource::{Resource, ResourceFault};

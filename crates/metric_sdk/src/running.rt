@@ -7,7 +7,7 @@ ghost use Rattle.metric_periodic.specs.declared.ended.ReaderEnd.{ReaderEnd as re
 ghost use Rattle.metric_provider.specs.Rolling.{RefusesRoll};
 ghost use Rattle.metric_provider.specs.Totals.{RefusesFinish, seated};
 ghost use Rattle.metric_sdk.specs.Services.{AreCounted, Begins, EndsService, GoesOn, RefusesEnd};
-ghost use Rattle.metric_sdk.specs.Services.{RefusesRollOver, RollsOver, service_of};
+ghost use Rattle.metric_sdk.specs.Services.{RefusesRollOver, RollsOver};
 
 use crate::leftover::{Ended, Left, NextRun, Unended, UnendedFault};
 use crate::runs::Runs;
@@ -62,19 +62,19 @@ impl<O: Outlets, B: Book, G: Gate> Service<O, B, G> {
         let ends = match last_turns(rt, alloc, &provider, &mut outlets, now) {
             Ok(ends) => ends,
             Err(_) => {
-                let service = service_of(provider, outlets, runs);
+                let service = Service::from_parts(provider, outlets, runs);
                 let none = Vec::new(alloc);
                 return Err(left_by(service, recorders, UnendedFault::Memory, none));
             }
         };
         if !are_collected(&ends) {
-            let service = service_of(provider, outlets, runs);
+            let service = Service::from_parts(provider, outlets, runs);
             return Err(left_by(service, recorders, UnendedFault::Uncollected, ends));
         }
         match provider.roll_over(rt, alloc, recorders, now, runs.coming()) {
             Ok(rolled) => next_run(outlets, runs, rolled, ends),
             Err((provider, recorders, fault)) => {
-                let service = service_of(provider, outlets, runs);
+                let service = Service::from_parts(provider, outlets, runs);
                 Err(left_by(service, recorders, UnendedFault::Roll(fault), ends))
             }
         }
@@ -117,36 +117,22 @@ impl<O: Outlets, B: Book, G: Gate> Service<O, B, G> {
         let ends = match last_turns(rt, alloc, &provider, &mut outlets, now) {
             Ok(ends) => ends,
             Err(_) => {
-                let service = service_of(provider, outlets, runs);
+                let service = Service::from_parts(provider, outlets, runs);
                 let none = Vec::new(alloc);
                 return Err(left_by(service, recorders, UnendedFault::Memory, none));
             }
         };
         if !are_collected(&ends) {
-            let service = service_of(provider, outlets, runs);
+            let service = Service::from_parts(provider, outlets, runs);
             return Err(left_by(service, recorders, UnendedFault::Uncollected, ends));
         }
         match provider.finish_keeping(rt, alloc, recorders) {
             Ok(finished) => ended(outlets, finished, ends),
             Err((provider, recorders, fault)) => {
-                let service = service_of(provider, outlets, runs);
+                let service = Service::from_parts(provider, outlets, runs);
                 Err(left_by(service, recorders, UnendedFault::Finish(fault), ends))
             }
         }
-    }
-}
-
-fn service_of<O, B: Book, G: Gate>(
-    provider: Provider<B, G>,
-    outlets: O,
-    runs: Runs,
-) -> Service<O, B, G>
-    ensures { result ≡ service_of provider outlets runs }
-{
-    Service {
-        provider,
-        outlets,
-        runs,
     }
 }
 
@@ -243,7 +229,7 @@ fn next_run<O: Outlets, B: Book, G: Gate>(
     let are_seated = outlets.begin_each(&mut seats);
     let _given = runs.next();
     let next = NextRun {
-        service: service_of(provider, outlets, runs),
+        service: Service::from_parts(provider, outlets, runs),
         recorders,
         totals,
     };

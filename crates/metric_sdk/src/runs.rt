@@ -1,31 +1,8 @@
-//! When a run starts, and its number.
-ghost use Rattle.std.specs.Prelude.{◌≡◌, ◌-◌, ◌^◌, ℕ, min};
-ghost use Rattle.std.specs.Time.{system_time_nanos};
+//! The numbers of runs.
+ghost use Rattle.std.specs.Prelude.{◌≡◌, ℕ};
 ghost use Rattle.metric_io.specs.Counts.{next_count};
 
-use std::io;
 use std::marker::Model;
-use std::time::{Clock, SystemTime, UNIX_EPOCH};
-
-/// The system's clock in nanoseconds since 1970, as a [`ClockTicker`](crate::ClockTicker) gives it: 2^64 - 1 if there
-/// are more, after the year 2554. Nothing is proved about the clock.
-///
-/// # Errors
-///
-/// If the clock cannot be read, or shows a time before 1970.
-pub fn now<R: Clock>(rt: &R) -> io::Result<u64> {
-    Ok(nanoseconds_at(SystemTime::now(rt)?))
-}
-
-// The nanoseconds from 1970 to a time, 2^64 - 1 where there are more.
-fn nanoseconds_at(time: SystemTime) -> u64
-    ensures { result ≡ min (system_time_nanos time) (2 ^ 64 - 1) }
-{
-    match time.duration_since(UNIX_EPOCH) {
-        Ok(since) => u64::try_from(since.as_nanos()).unwrap_or(u64::MAX),
-        Err(_) => 0,
-    }
-}
 
 /// Numbers for runs. Seats of two providers of one plan that started at one moment are told apart by their number
 /// alone, so a process makes one `Runs`, with which [`open`](crate::open) opens each provider, and takes the number of

@@ -48,14 +48,8 @@ impl<B: Book, G: Gate> Service<(), B, G> {
           readers = readers.items;
         } }
     {
-        ServiceBuilder {
-            service: Service {
-                provider,
-                outlets: (),
-                runs,
-            },
-            readers,
-        }
+        let service = Service::from_parts(provider, (), runs);
+        ServiceBuilder { service, readers }
     }
 }
 
@@ -96,6 +90,18 @@ impl<O, B: Book, G: Gate> Service<O, B, G> {
             .turn_if_due(rt, alloc, &self.provider, now, true);
     }
 
+    /// A service of these. So one goes on whose run ended by hand, as by [`Provider::finish_partly`] where a recorder's
+    /// seat was lost: with a new provider of its texts, and its outlets, which begin that run ([`Outlets::begin_each`]).
+    pub fn from_parts(provider: Provider<B, G>, outlets: O, runs: Runs) -> Service<O, B, G>
+        ensures { result ≡ service_of provider outlets runs }
+    {
+        Service {
+            provider,
+            outlets,
+            runs,
+        }
+    }
+
     /// The provider, the outlets and the numbers of the runs, for who ends them by hand.
     pub fn into_parts(self) -> (Provider<B, G>, O, Runs)
         ensures { (result.0 ≡ self.provider) × ((result.1 ≡ self.outlets)
@@ -125,16 +131,19 @@ impl<O, B: Book, G: Gate> Model for ServiceBuilder<O, B, G> {
     ghost view = { λ b. record { service = b.service; readers = b.readers.items } };
 }
 
-/// Why a reader does not go with an exporter.
+/// Why a reader does not go with an exporter, or has none.
 #[derive(Clone, Copy, Debug, PartialEq, Eq, Drop)]
 pub enum TellFault {
     /// The plan has no reader of this name, or it has been told or ignored before.
     UnknownReader,
     /// [`ExportFault::OtherReader`] where the exporter does not take its batches, or [`ExportFault::Memory`].
     Exporter(ExportFault),
+    /// The reader of this number has been told no exporter, and is not ignored.
+    Untold(u32),
 }
 
-/// A service that is being put together and an exporter, which do not go together.
+/// A service that is being put together and an exporter, which do not go together; or the service alone, where a reader
+/// has no exporter.
 #[derive(Drop)]
 pub struct TellLeft<E, O, B: Book, G: Gate> {
     /// The service, as it was, but that the seat of the reader stands last, unless memory ran out for that.
@@ -223,19 +232,20 @@ impl<O, B: Book, G: Gate> ServiceBuilder<O, B, G> {
     ///
     /// # Errors
     ///
-    /// [`Untold`] names the first reader that has not, and hands this back.
-    pub fn build(self) -> Result<Service<O, B, G>, Untold<O, B, G>>
+    /// [`TellFault::Untold`] names the first reader that has not; the service is handed back.
+    pub fn build(self) -> Result<Service<O, B, G>, TellLeft<(), O, B, G>>
         ensures ok { IfOk result (λ service. (service ≡ self.service) × (self.readers ≡ [])) }
         ensures err { IfErr result (λ left. (left.builder ≡ self)
             × ((seat : CollectorValue) × ((slice_get self.readers 0 ≡ Some seat)
-            × (left.reader ≡ seat.number)))) }
+            × (left.fault ≡ TellFault.Untold seat.number)))) }
     {
         match self.readers.first() {
             Some(seat) => {
-                let reader = seat.number();
-                Err(Untold {
+                let fault = TellFault::Untold(seat.number());
+                Err(TellLeft {
                     builder: self,
-                    reader,
+                    exporter: (),
+                    fault,
                 })
             }
             None => {
@@ -247,15 +257,6 @@ impl<O, B: Book, G: Gate> ServiceBuilder<O, B, G> {
             }
         }
     }
-}
-
-/// A service that is being put together, of which a reader has been told no exporter and is not ignored.
-#[derive(Drop)]
-pub struct Untold<O, B: Book, G: Gate> {
-    /// The service, as it was.
-    pub builder: ServiceBuilder<O, B, G>,
-    /// The number of the reader.
-    pub reader: u32,
 }
 
 // A service with one outlet more.
@@ -270,11 +271,7 @@ fn with_outlet<O, E, B: Book, G: Gate>(
         outlets,
         runs,
     } = service;
-    Service {
-        provider,
-        outlets: (outlets, outlet),
-        runs,
-    }
+    Service::from_parts(provider, (outlets, outlet), runs)
 }
 
 // What is left where a seat and an exporter do not go together.

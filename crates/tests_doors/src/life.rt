@@ -272,7 +272,7 @@ point {} start=5 time=200 value=3
         flushes: false,
         told: "done
 done
-not ended: 1 RecorderMissing; reader 0, 2 batches not exported: 1 Write, not flushed: 1 Write; reader 1, 2 batches not exported: 1 Write, not flushed: 1 Write
+not ended: 1 RecorderMissing: r1; reader 0, 2 batches not exported: 1 Write, not flushed: 1 Write; reader 1, 2 batches not exported: 1 Write, not flushed: 1 Write
 1
 ",
     },
