@@ -343,6 +343,37 @@ fn each_recording_goes_out_once(rt: HostRuntime) {
     }
 }
 
+// Which recorder's seat was lost, what the run came to that went on without it, and what was exported: each recording.
+const LOST: &str = "not ended: 1 RecorderMissing: r
+[0]
+[Total { count: 1, sum: 5 }]
+[(10, 1), (20, 1)]
+";
+
+// A service of which a seat was lost goes on in another run, with the same outlets.
+#[test]
+fn a_service_goes_on_without_a_seat(rt: HostRuntime) {
+    let (alloc, mut page) = (rt.alloc(), Page::new(&rt, rt.alloc()));
+    let mut exporter = failing_at(alloc, &[]);
+    let (service, _lost) = told(&page, hit_once(&rt, alloc, 1), "d", &mut exporter, 1);
+    let Err(left) = service.roll_over(&rt, alloc, Vec::new(alloc), 10) else {
+        panic!(rt; "rolled over");
+    };
+    page.say(&left);
+    let unended = left.done.err().expect(&rt, "ended");
+    let (provider, mut outlets, runs) = unended.service.into_parts();
+    match provider.finish_partly(&rt, alloc, Vec::new(alloc)) {
+        Ok(partly) => page.tell(partly.missing.as_slice()),
+        Err((_, _, fault)) => page.say(fault),
+    }
+    let (provider, recorders, mut readers) = hit_once(&rt, alloc, 2).into_seats();
+    assert!(rt; outlets.begin_each(&mut readers));
+    let service = Whole::from_parts(provider, outlets, runs);
+    assert!(rt; end(&mut page, service, recorders, 20).is_some());
+    page.tell(exporter.taken.as_slice());
+    page.assert(LOST);
+}
+
 // Each with its start and its time: what the next run collects at 20, and what was exported.
 const WINDOWS: &str = "(0, 10)
 (10, 20)

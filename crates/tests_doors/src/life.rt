@@ -5,9 +5,9 @@ use crate::failing::sink_of;
 use crate::page::Page;
 use crate::services::{DELTA, HITS, Seats, Service};
 use metric_sdk::{
-    Catalogue, Config, CutSink, KeepingExporter, MeterProvider, QueueCounts, Queued, Recorder,
-    Runs, Service as Whole, SetupFault, StopFlag, TextExporter, ToldQueue, Work, live, make, now,
-    open, open_certified, open_with_lanes,
+    Catalogue, Config, CutSink, KeepingExporter, MeterProvider, NamedText, QueueCounts, Queued,
+    Recorder, Runs, Service as Whole, SetupFault, StopFlag, TextExporter, ToldQueue, Work,
+    diagnosed, live, make, now, open, open_certified, open_with_lanes,
 };
 use std::alloc::Global;
 use std::process::Abort;
@@ -95,6 +95,43 @@ const OPENED: &[(&str, &str, By, &str)] = &[
         "certificate 1 NotToml\n",
     ),
 ];
+
+// What is told of two files in words.
+const WORDS: &[(&str, &str, &str)] = &[
+    (
+        "=",
+        CONFIG,
+        "catalogue.toml:1:1: not valid TOML: invalid key, expected letters, numbers, `-`, `_` or a quoted key\n",
+    ),
+    (
+        CATALOGUE,
+        "=",
+        "config.toml:1:1: not valid TOML: invalid key, expected letters, numbers, `-`, `_` or a quoted key\n",
+    ),
+    (
+        HIGH,
+        CONFIG,
+        "catalogue.toml:4:1: instrument 0 \"c\": its budgets and its spare are 10 recordings together, and at most 9 are safe: a sum may rise to 10000000000000000000, above 9223372036854775807\n",
+    ),
+];
+
+fn named<'a>(name: &'a str, text: &'a str) -> NamedText<'a> {
+    NamedText { name, text }
+}
+
+#[test]
+fn what_is_not_opened_is_put_into_words(rt: HostRuntime) {
+    for (catalogue, config, words) in WORDS {
+        let mut page = Page::new(&rt, rt.alloc());
+        let opened = open(&rt, rt.alloc(), catalogue, config, 5, &mut Runs::new());
+        let texts = [
+            named("catalogue.toml", catalogue),
+            named("config.toml", config),
+        ];
+        page.answer(diagnosed(rt.alloc(), texts, opened).map(|_| ()));
+        page.assert(words);
+    }
+}
 
 fn opened<R: Wait>(
     rt: &R,

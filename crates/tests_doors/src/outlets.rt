@@ -1,19 +1,21 @@
 //! Tests of batches that leave: in the OpenTelemetry protocol, as the lines of a page, and as pages that are replaced
 //! after each collection.
+ghost use Rattle.std.specs.Prelude.{None};
+
 use crate::asserted::{OrFail, assert_equal};
 use crate::calls::{Call, Lent, make};
 use crate::ends::runs_after;
-use crate::failing::{Failing, failing_at};
 use crate::page::Page;
-use crate::services::{HITS as ONE, Service};
+use crate::services::Service;
 use metric_sdk::{
     Attr, Batch, Broken, CutSink, Dialect, Encoding, ExportFault, Exposition, KeepingExporter,
-    MetricExporter, OtlpBytes, OtlpLines, OutletFault, PageExporter, Pages, Plan, Queued, Resource,
-    ResourceFault, Runs, Service as Whole, TextExporter, open,
+    MetricExporter, OpenSink, OtlpBytes, OtlpLines, OutletFault, PageExporter, Pages, Plan, Queued,
+    ReopeningExporter, Resource, ResourceFault, Runs, Service as Whole, Sink, TextExporter,
+    certified_plan, open,
 };
 use std::alloc::Global;
 use std::process::Abort;
-use std::sync::Wait;
+use std::sync::{Mutex, Wait};
 
 // The keys of a resource's attributes, and what is told of them.
 const RESOURCES: &[(&[&str], Option<ResourceFault>)] = &[
@@ -200,12 +202,22 @@ fn pages_of<R: Abort>(
     plan: &Plan,
     reader: u32,
 ) -> Result<PageExporter<Shelf>, OutletFault> {
+    pages_in(rt, alloc, plan, reader, Dialect::Text)
+}
+
+fn pages_in<R: Abort>(
+    rt: &R,
+    alloc: Global,
+    plan: &Plan,
+    reader: u32,
+    dialect: Dialect,
+) -> Result<PageExporter<Shelf>, OutletFault> {
     let shelf = Shelf {
         page: Vec::new(alloc),
         calls: 0,
     };
     let till = resource(rt, alloc);
-    PageExporter::new(alloc, plan, reader, Dialect::Text, &till, shelf)
+    PageExporter::new(alloc, plan, reader, dialect, &till, shelf)
 }
 
 // Makes a call, and writes the answer and the last page.
@@ -216,11 +228,6 @@ fn tell_page<R: Abort>(
     call: &Call,
 ) {
     make(page, exporter, lent, call);
-    tell_shelf(page, exporter)
-}
-
-// Writes the last page.
-fn tell_shelf<R: Abort>(page: &mut Page<'_, R>, exporter: &PageExporter<Shelf>) {
     page.push(str::from_utf8(exporter.pages().page.as_slice()).or_fail(page.rt))
 }
 
@@ -297,60 +304,183 @@ fn lines_are_of_their_reader(rt: HostRuntime) {
     assert_equal(&rt, told, Err(ExportFault::OtherReader));
 }
 
-// What the page of a reader says beside its target, over three runs of which the last is quiet, after a flush and after
-// the roll-over; and how often the other one's batches went out, are kept, and how many points they had: one for each
-// recording.
-const RUNS: &[&str] = &[
-    TARGET,
-    FIVE,
-    TARGET,
-    FIVE,
-    TARGET,
-    HITS,
-    TARGET,
-    HITS,
-    TARGET,
-    TARGET,
-    "(3, 0)\n[(10, 1), (30, 1), (50, 0)]\n",
-];
-
-const FIVE: &str = "# HELP hits_total 
-# TYPE hits_total counter
-hits_total{otel_scope_name=\"m\"} 5
+// A counter and two levels.
+const LEVELS: &str = "format = 1
+[[meter]]
+name = 'm'
+instrument = [
+    { name = 'hits', kind = 'counter', range = [0, 100] },
+    { name = 'inside', kind = 'up_down_counter', range = [-9, 9] },
+    { name = 'heat', kind = 'gauge', range = [0, 100] },
+]
+[[recorder]]
+name = 'r'
+budget = [{ instrument = 0, amount = 1 }, { instrument = 1, amount = 1 }, { instrument = 2, amount = 1 }]
 ";
 
-// A recording in the first two of three runs: a delta reader has a queue over an exporter that fails at times, and a
-// cumulative one a page.
-fn tell_runs<R: Abort + Wait>(page: &mut Page<'_, R>, queue: &mut Queued<Failing>) {
-    let (provider, mut recorders, readers) = Service::new(
-        page.rt, page.alloc, ONE, BOTH, 1,
-    ).into_seats();
-    let service = Whole::builder(provider, readers, runs_after(1));
-    let made = pages_of(page.rt, page.alloc, service.plan(), 1).or_fail(page.rt);
-    let service = service.tell(page.alloc, "new", &mut *queue, 1);
-    let service = service.or_fail(page.rt);
-    let service = service.tell(page.alloc, "all", made, 1);
-    let mut service = service.or_fail(page.rt).build().or_fail(page.rt);
-    for (value, now) in [(Some(5), 10), (Some(7), 30), (None, 50)] {
-        if let (Some(value), Some(recorder)) = (value, recorders.first_mut()) {
-            let answer = recorder.record(page.rt, service.provider(), 0, &[], value);
-            answer.or_fail(page.rt);
-        }
-        service.force_flush(page.rt, page.alloc, now);
-        tell_shelf(page, service.outlets().1.exporter());
-        let next = service.roll_over(page.rt, page.alloc, recorders, now + 10);
-        let next = next.or_fail(page.rt);
-        (service, recorders) = (next.service, next.recorders);
-        tell_shelf(page, service.outlets().1.exporter());
+// What is recorded of each instrument in a run, and what its page then says of them: no count falls but where its
+// `_created` rises, and no level of an ended run stays.
+type Lived = ([Option<i64>; 3], &'static [&'static str]);
+
+const RUNS: &[Lived] = &[
+    (
+        [Some(5), Some(2), Some(30)],
+        &[
+            "hits_total{otel_scope_name=\"m\"} 5\n",
+            "hits_created{otel_scope_name=\"m\"} 0.000000000\n",
+            "inside{otel_scope_name=\"m\"} 2\n",
+            "heat{otel_scope_name=\"m\"} 30\n",
+        ],
+    ),
+    (
+        [Some(7), None, None],
+        &[
+            "hits_total{otel_scope_name=\"m\"} 7\n",
+            "hits_created{otel_scope_name=\"m\"} 0.000000020\n",
+        ],
+    ),
+    (
+        [None, None, Some(10)],
+        &["heat{otel_scope_name=\"m\"} 10\n"],
+    ),
+    (
+        [Some(3), Some(-1), None],
+        &[
+            "hits_total{otel_scope_name=\"m\"} 3\n",
+            "hits_created{otel_scope_name=\"m\"} 0.000000060\n",
+            "inside{otel_scope_name=\"m\"} -1\n",
+        ],
+    ),
+    (
+        [Some(4), None, None],
+        &[
+            "hits_total{otel_scope_name=\"m\"} 4\n",
+            "hits_created{otel_scope_name=\"m\"} 0.000000080\n",
+        ],
+    ),
+];
+
+// What was written, and how often; the writes of these numbers, from 1 on, take nothing.
+#[derive(Drop)]
+struct Device {
+    written: Mutex<(Vec<u8>, u64)>,
+    fails_at: &'static [u64],
+}
+
+// A way to a device.
+#[derive(Drop)]
+struct Wire<'a, R> {
+    rt: &'a R,
+    device: &'a Device,
+    failures: u64,
+}
+
+fn wire_to<'a, R>(rt: &'a R, device: &'a Device) -> Wire<'a, R> {
+    Wire {
+        rt,
+        device,
+        failures: 0,
     }
 }
 
+impl<R: Wait> Sink for Wire<'_, R> {
+    ghost contents = { λ _. None };
+
+    ghost failures = { λ s. s.failures };
+
+    fn write(&mut self, buf: &[u8]) -> Result<usize, Broken> {
+        let mut written = self.device.written.lock(self.rt);
+        written.1 = written.1.saturating_add(1);
+        let fails = self.device.fails_at.contains(&written.1);
+        if fails || buf.is_empty() || written.0.extend_from_slice(buf).is_err() {
+            self.failures = self.failures.saturating_add(1);
+            return Err(Broken);
+        }
+        Ok(buf.len())
+    }
+
+    fn flush(&mut self) -> Result<(), Broken> {
+        Ok(())
+    }
+}
+
+impl<'a, R: Wait> OpenSink<Wire<'a, R>> for Wire<'a, R> {
+    ghost opens = { λ _ _ _. Unit {0} };
+
+    fn open(&mut self) -> Result<Wire<'a, R>, Broken> {
+        Ok(wire_to(self.rt, self.device))
+    }
+}
+
+// What a decoder of lines adds up of the counter, whose batches are deltas.
+fn decoded<R: Abort>(rt: &R, lines: &[u8]) -> i64 {
+    let mut sum: i64 = 0;
+    for line in str::from_utf8(lines).or_fail(rt).lines() {
+        if line.contains("\"name\":\"hits\"") {
+            for point in line.split("\"asInt\":\"").skip(1) {
+                let (value, _) = point.split_once('"').expect(rt, "no value");
+                sum = sum.saturating_add(value.parse().or_fail(rt));
+            }
+        }
+    }
+    sum
+}
+
+// Lives all runs, of which each begins at 0, 20, 40 ..: a delta reader's batches go to an exporter, a cumulative one
+// has a page. Ends where that is not what a run is to say.
+fn live_runs<R: Abort + Wait, E: MetricExporter>(rt: &R, alloc: Global, lines: &mut E) {
+    let (provider, mut recorders, readers) = Service::new(rt, alloc, LEVELS, BOTH, 1).into_seats();
+    let service = Whole::builder(provider, readers, runs_after(1));
+    let pages = pages_in(rt, alloc, service.plan(), 1, Dialect::OpenMetricsCreated);
+    let service = service.tell(alloc, "new", lines, 1).or_fail(rt);
+    let service = service.tell(alloc, "all", pages.or_fail(rt), 1);
+    let mut service = service.or_fail(rt).build().or_fail(rt);
+    let mut now: u64 = 0;
+    for (values, wanted) in RUNS {
+        let recorder = recorders.first_mut().expect(rt, "no recorder");
+        for (instrument, value) in (0..3).zip(values) {
+            if let Some(value) = value {
+                let answer = recorder.record(rt, service.provider(), instrument, &[], *value);
+                answer.or_fail(rt);
+            }
+        }
+        service.force_flush(rt, alloc, now.saturating_add(10));
+        assert_shows(rt, alloc, service.outlets().1.exporter(), wanted);
+        now = now.saturating_add(20);
+        let next = service.roll_over(rt, alloc, recorders, now).or_fail(rt);
+        (service, recorders) = (next.service, next.recorders);
+        // Until the next run has something to say, a page is as it was.
+        assert_shows(rt, alloc, service.outlets().1.exporter(), wanted);
+    }
+    let _ended = service.end(rt, alloc, recorders, now).or_fail(rt);
+}
+
+// Ends the test where a page says something else of its instruments.
+fn assert_shows<R: Abort>(rt: &R, alloc: Global, exporter: &PageExporter<Shelf>, wanted: &[&str]) {
+    let mut page = Page::new(rt, alloc);
+    let text = str::from_utf8(exporter.pages().page.as_slice()).or_fail(rt);
+    for line in text.lines() {
+        if !line.starts_with('#') && !line.starts_with("target") {
+            page.push(line);
+            page.push("\n");
+        }
+    }
+    page.assert(wanted.concat(alloc).or_fail(rt).as_str());
+}
+
+// Over four roll-overs, while exports fail, each recording of a delta reader leaves once.
 #[test]
 fn each_reader_has_its_own_way_out(rt: HostRuntime) {
-    let mut page = Page::new(&rt, rt.alloc());
-    let mut queue = Queued::new(rt.alloc(), failing_at(rt.alloc(), &[1, 2, 4]), 4);
-    tell_runs(&mut page, &mut queue);
-    page.tell((queue.sent(), queue.kept().len()));
-    page.tell(queue.inner().taken.as_slice());
-    page.assert(RUNS.concat(rt.alloc()).or_fail(&rt).as_str());
+    let device = Device {
+        written: Mutex::new((Vec::new(rt.alloc()), 0)),
+        fails_at: &[1, 4, 5, 6, 9, 12],
+    };
+    let plan = certified_plan(rt.alloc(), LEVELS, BOTH).or_fail(&rt);
+    let lines = OtlpLines::new(&plan, 0, resource(&rt, rt.alloc())).or_fail(&rt);
+    let lines = ReopeningExporter::of(lines, wire_to(&rt, &device));
+    let mut queue = Queued::new(rt.alloc(), lines, 99);
+    live_runs(&rt, rt.alloc(), &mut queue);
+    assert_equal(&rt, (queue.kept().len(), queue.dropped()), (0, 0));
+    let written = device.written.lock(&rt);
+    assert_equal(&rt, decoded(&rt, written.0.as_slice()), 19);
 }
