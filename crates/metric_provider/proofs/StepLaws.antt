@@ -1,11 +1,11 @@
 -- One lane more.
-use Rattle.std.proofs.Common.{◌≡◌, ◌≤◌, ◌<◌, ◌≢◌, ◌==◌, if◌then◌else◌, OnErr, OnOk, ℕ, ◌+◌, ◌-◌, List, [], ◌∷◌, ◌++◌, Option, Some, None, Result, Ok, Err, length, refl, sym, subst, arith}
+use Rattle.std.proofs.Common.{◌≡◌, ◌≤◌, ◌<◌, ◌≢◌, ◌==◌, if◌then◌else◌, OnErr, OnOk, ℕ, ◌+◌, ◌-◌, List, [], ◌∷◌, ◌++◌, map, Option, Some, None, Result, Ok, Err, refl, sym, subst, arith}
 use Rattle.metric_contents.specs.declared.refusal.Refusal.{Refusal}
 use Rattle.metric_facts.specs.declared.facts.Facts.{Facts}
 use Rattle.metric_history.specs.declared.batch.Batch.{Batch}
 use Rattle.metric_lanes.specs.declared.gathered.Asked.{Asked}
 use Rattle.metric_lanes.specs.declared.gathered.Gathered.{Gathered}
-use Rattle.metric_provider.specs.Steps.{AreQuiet, AreUngranted, Closes, Closing, Collects, Does, Granting, Grants, GrantsNothing, IsBatchOf, JoinsAll, JoinsAnswer, Reporting, Spares, Step, TakesNothing, Telling, close_down, close_up, grant_down, grant_up, nested, parts_of, report_down, report_up, tell_down, tell_up}
+use Rattle.metric_provider.specs.Steps.{Closes, Closing, Collects, Does, Granting, Grants, GrantsNothing, IsBatchOf, JoinsAll, JoinsAnswer, Refusing, Reporting, Spares, Step, TakesNothing, Telling, Ungranting, close_down, close_up, grant_down, grant_up, nested, parts_of, refuse_down, refuse_up, report_down, report_up, tell_down, tell_up, ungrant_down, ungrant_up}
 
 follows : {D S : Type 0} (does : D → D → S → Type 0) (d m e : D) (ss ts : List S) → Does does d ss m → Does does m ts e → Does does d (ss ++ ts) e
 follows {D} {S} does d m e [] ts did rest = subst (λ (x : D). Does does x ts e) (sym did) rest
@@ -87,20 +87,18 @@ collects_more {H} {D} does d d1 d2 d3 d4 d5 at count own question before (Ok par
 collects_more {H} {D} does d d1 d2 d3 d4 d5 at count own question None (Err refusal) with told held left lock report one rest advance unlock = absurd one
 collects_more {H} {D} does d d1 d2 d3 d4 d5 at count own question (Some a) (Err refusal) with told held left lock report one rest advance unlock = absurd one
 
-pub quiet_inside : {H D : Type 0} (does : D → D → Step H → Type 0) (d e : D) → does d e Step.Inside → TakesNothing does d e
-quiet_inside does d e inside = record { taken = Step.Inside ∷ []; did = (e, inside, refl); quiet = (tt, tt) }
-
-quiet_then : {H : Type 0} (ss ts : List (Step H)) → AreQuiet ss → AreQuiet ts → AreQuiet (ss ++ ts)
-quiet_then [] ts quiet rest = rest
-quiet_then (s ∷ ss) ts quiet rest = (quiet.0, quiet_then ss ts quiet.1 rest)
+pub quiet_inside : {H D : Type 0} (does : D → D → Step H → Type 0) (d e : D) (at : ℕ) (own : Facts) (question : Asked) → does d e Step.Inside → TakesNothing does d at own question e
+quiet_inside does d e at own question inside = record { visits = []; steps = (e, inside, refl) }
 
 pub quiet_more : {H D : Type 0} (does : D → D → Step H → Type 0) (d d1 d2 d3 d4 : D) (at : ℕ) (own : Facts) (question : Asked) (held : H) (answer : Result Gathered Refusal)
-    → does d d1 (Step.Lock at held) → does d1 d2 (Step.Report held own question answer) → TakesNothing does d2 d3 → does d3 d4 (Step.Unlock held) → TakesNothing does d d4
-quiet_more does d d1 d2 d3 d4 at own question held answer lock report rest unlock = record {
-  taken = Step.Lock at held ∷ Step.Report held own question answer ∷ (rest.taken ++ Step.Unlock held ∷ []);
-  did = (d1, lock, (d2, report, follows does d2 d3 d4 rest.taken (Step.Unlock held ∷ []) rest.did (d4, unlock, refl)));
-  quiet = (tt, (tt, quiet_then rest.taken (Step.Unlock held ∷ []) rest.quiet (tt, tt)));
-}
+    → does d d1 (Step.Lock at held) → does d1 d2 (Step.Report held own question answer) → TakesNothing does d2 (at + 1) own question d3 → does d3 d4 (Step.Unlock held)
+    → TakesNothing does d at own question d4
+quiet_more {H} does d d1 d2 d3 d4 at own question held answer lock report rest unlock =
+    let v : Refusing H = record { held = held; answer = answer } in
+    record {
+      visits = v ∷ rest.visits;
+      steps = (d1, lock, (d2, report, follows does d2 d3 d4 (nested (refuse_up own question) refuse_down (at + 1) rest.visits) (Step.Unlock held ∷ []) rest.steps (d4, unlock, refl)));
+    }
 
 pub on_err : {T E : Type 0} (r : Result T E) (P : Type 0) → P → OnErr r P
 on_err (Ok x) P is = tt
@@ -151,43 +149,55 @@ grants_here {H} does d d1 d2 d3 d4 d5 at count own before granted less lane reco
     grants_more does d d1 d2 d3 d5 at count own before granted less lane recorder amount found held left (Step.Grant held left own recorder amount (Ok tt) ∷ Step.Unlock left ∷ [])
     (here_is at lane (Step.Grant held left own recorder amount (Ok tt) ∷ Step.Unlock left ∷ []) (Step.Unlock held ∷ []) here) lock may is rest (d4, grant, (d5, unlock, refl))
 
-pub ungranted_inside : {H D : Type 0} (does : D → D → Step H → Type 0) (d e : D) → does d e Step.Inside → GrantsNothing does d e
-ungranted_inside does d e inside = record { taken = Step.Inside ∷ []; did = (e, inside, refl); none = (tt, tt) }
+pub ungranted_inside : {H D : Type 0} (does : D → D → Step H → Type 0) (d e : D) (at : ℕ) (own : Facts) (recorder amount : ℕ) → does d e Step.Inside
+    → GrantsNothing does d at own recorder amount e
+ungranted_inside does d e at own recorder amount inside = record { visits = []; steps = (e, inside, refl) }
 
-ungranted_then : {H : Type 0} (ss ts : List (Step H)) → AreUngranted ss → AreUngranted ts → AreUngranted (ss ++ ts)
-ungranted_then [] ts none rest = rest
-ungranted_then (s ∷ ss) ts none rest = (none.0, ungranted_then ss ts none.1 rest)
+pub ungranted_more : {H D : Type 0} (does : D → D → Step H → Type 0) (d d1 d2 d3 d4 : D) (at : ℕ) (own : Facts) (recorder amount : ℕ) (found held : H) (answer : Result ℕ Refusal)
+    → does d d1 (Step.Lock at found) → does d1 d2 (Step.MayGrant found held own recorder answer) → GrantsNothing does d2 (at + 1) own recorder amount d3 → does d3 d4 (Step.Unlock held)
+    → GrantsNothing does d at own recorder amount d4
+ungranted_more {H} does d d1 d2 d3 d4 at own recorder amount found held answer lock may rest unlock =
+    let v : Ungranting H = record { found = found; held = held; answer = answer; tried = None } in
+    record {
+      visits = v ∷ rest.visits;
+      steps = (
+        d1,
+        lock,
+        (
+          d2,
+          may,
+          follows does d2 d3 d4 (nested (ungrant_up own recorder) (ungrant_down own recorder amount) (at + 1) rest.visits) (Step.Unlock held ∷ []) rest.steps (d4, unlock, refl),
+        ),
+      );
+    }
 
-pub ungranted_more : {H D : Type 0} (does : D → D → Step H → Type 0) (d d1 d2 d3 d4 : D) (at : ℕ) (own : Facts) (recorder : ℕ) (found held : H) (answer : Result ℕ Refusal)
-    → does d d1 (Step.Lock at found) → does d1 d2 (Step.MayGrant found held own recorder answer) → GrantsNothing does d2 d3 → does d3 d4 (Step.Unlock held) → GrantsNothing does d d4
-ungranted_more does d d1 d2 d3 d4 at own recorder found held answer lock may rest unlock = record {
-  taken = Step.Lock at found ∷ Step.MayGrant found held own recorder answer ∷ (rest.taken ++ Step.Unlock held ∷ []);
-  did = (d1, lock, (d2, may, follows does d2 d3 d4 rest.taken (Step.Unlock held ∷ []) rest.did (d4, unlock, refl)));
-  none = (tt, (tt, ungranted_then rest.taken (Step.Unlock held ∷ []) rest.none (tt, tt)));
-}
+-- a lane behind that of the recorder, in which nothing was tried
+abbrev untried : {H : Type 0} → Granting H → Ungranting H
+untried v = record { found = v.found; held = v.held; answer = Ok v.granted; tried = None }
 
 ungranted_nested : {H : Type 0} (own : Facts) (lane recorder amount at : ℕ) (visits : List (Granting H)) → lane < at
-    → AreUngranted (nested (grant_up own recorder) (grant_down own lane recorder amount) at visits)
-ungranted_nested own lane recorder amount at [] past = (tt, tt)
+    → nested (grant_up own recorder) (grant_down own lane recorder amount) at visits ≡ nested (ungrant_up own recorder) (ungrant_down own recorder amount) at (map untried visits)
+ungranted_nested own lane recorder amount at [] past = refl
 ungranted_nested {H} own lane recorder amount at (v ∷ vs) past =
-    let rest = ungranted_nested own lane recorder amount (at + 1) vs (omega (arith, past)) in
+    let inner : List (Step H) = nested (ungrant_up own recorder) (ungrant_down own recorder amount) (at + 1) (map untried vs) in
     let other : at ≢ lane = omega (arith, past) in
-    let down : AreUngranted (grant_down own lane recorder amount at v) = subst (λ (ss : List (Step H)). AreUngranted ss)
-    (other_is at lane (Step.Grant v.held v.left own recorder amount (Ok tt) ∷ Step.Unlock v.left ∷ []) (Step.Unlock v.held ∷ []) other) (tt, tt) in
-    (tt, (tt, ungranted_then (nested (grant_up own recorder) (grant_down own lane recorder amount) (at + 1) vs) (grant_down own lane recorder amount at v) rest down))
+    subst (λ (ss : List (Step H)). grant_up own recorder at v ++ (ss ++ grant_down own lane recorder amount at v) ≡ grant_up own recorder at v ++ (inner ++ Step.Unlock v.held ∷ []))
+    (sym (ungranted_nested own lane recorder amount (at + 1) vs (omega (arith, past))))
+    (subst (λ (ss : List (Step H)). grant_up own recorder at v ++ (inner ++ ss) ≡ grant_up own recorder at v ++ (inner ++ Step.Unlock v.held ∷ []))
+    (other_is at lane (Step.Grant v.held v.left own recorder amount (Ok tt) ∷ Step.Unlock v.left ∷ []) (Step.Unlock v.held ∷ []) other) refl)
 
 -- refused in its own lane, after all lanes behind it
 pub ungranted_here : {H D : Type 0} (does : D → D → Step H → Type 0) (d d1 d2 d3 d4 d5 : D) (at count : ℕ) (own : Facts) (granted less lane recorder amount : ℕ) (found held left : H)
     (answer : Result (Unit {0}) Refusal) → at ≡ lane
     → does d d1 (Step.Lock at found) → does d1 d2 (Step.MayGrant found held own recorder (Ok granted)) → Grants does d2 (at + 1) count own less lane recorder amount d3
     → does d3 d4 (Step.Grant held left own recorder amount answer) → does d4 d5 (Step.Unlock left)
-    → OnErr answer (GrantsNothing does d d5)
+    → OnErr answer (GrantsNothing does d at own recorder amount d5)
 ungranted_here does d d1 d2 d3 d4 d5 at count own granted less lane recorder amount found held left (Ok done) here lock may rest grant unlock = tt
 ungranted_here {H} does d d1 d2 d3 d4 d5 at count own granted less lane recorder amount found held left (Err refusal) here lock may rest grant unlock =
-    let inner : List (Step H) = nested (grant_up own recorder) (grant_down own lane recorder amount) (at + 1) rest.visits in
-    let last : List (Step H) = Step.Grant held left own recorder amount (Err refusal) ∷ Step.Unlock left ∷ [] in
+    let v : Ungranting H = record { found = found; held = held; answer = Ok granted; tried = Some (left, refusal) } in
+    let inner : List (Step H) = nested (ungrant_up own recorder) (ungrant_down own recorder amount) (at + 1) (map untried rest.visits) in
+    let did : Does does d2 inner d3 = subst (λ (ss : List (Step H)). Does does d2 ss d3) (ungranted_nested own lane recorder amount (at + 1) rest.visits (omega (arith, here))) rest.steps in
     record {
-      taken = Step.Lock at found ∷ Step.MayGrant found held own recorder (Ok granted) ∷ (inner ++ last);
-      did = (d1, lock, (d2, may, follows does d2 d3 d5 inner last rest.steps (d4, grant, (d5, unlock, refl))));
-      none = (tt, (tt, ungranted_then inner last (ungranted_nested own lane recorder amount (at + 1) rest.visits (omega (arith, here))) (tt, (tt, tt))));
+      visits = v ∷ map untried rest.visits;
+      steps = (d1, lock, (d2, may, follows does d2 d3 d5 inner (Step.Grant held left own recorder amount (Err refusal) ∷ Step.Unlock left ∷ []) did (d4, grant, (d5, unlock, refl))));
     }

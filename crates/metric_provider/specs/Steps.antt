@@ -99,21 +99,22 @@ pub record Collects {H D : Type 0} (does : D → D → Step H → Type 0) (befor
   pub joins : JoinsAll first (parts_of visits) all
   pub batch : told ≡ all.batch
 
--- a call that moves no lane on
-abbrev pub IsQuiet : {H : Type 0} → Step H → Type 0
-IsQuiet (Step.Advance held left reader time) = ⊥
-IsQuiet other = Unit {0}
+-- What was held of a lane that reported or refused, and its answer.
+pub record Refusing (H : Type 0) : Type 0 where
+  pub held : H
+  pub answer : Result Gathered Refusal
 
-abbrev pub AreQuiet : {H : Type 0} → List (Step H) → Type 0
-AreQuiet [] = Unit {0}
-AreQuiet (s ∷ ss) = IsQuiet s × AreQuiet ss
+abbrev pub refuse_up : {H : Type 0} → Facts → Asked → ℕ → Refusing H → List (Step H)
+refuse_up own asked at v = Step.Lock at v.held ∷ Step.Report v.held own asked v.answer ∷ []
 
--- Refused, no lane was moved on.
-pub record TakesNothing {H D : Type 0} (does : D → D → Step H → Type 0) (before after : D)
-    : Type 0 where
-  pub taken : List (Step H)
-  pub did : Does does before taken after
-  pub quiet : AreQuiet taken
+abbrev pub refuse_down : {H : Type 0} → ℕ → Refusing H → List (Step H)
+refuse_down at v = Step.Unlock v.held ∷ []
+
+-- Refused, the lanes from a place on were asked in order, up to some, and let go as they were.
+pub record TakesNothing {H D : Type 0} (does : D → D → Step H → Type 0) (before : D) (at : ℕ)
+    (own : Facts) (asked : Asked) (after : D) : Type 0 where
+  pub visits : List (Refusing H)
+  pub steps : Does does before (nested (refuse_up own asked) refuse_down at visits) after
 
 -- ---- the end
 
@@ -205,21 +206,32 @@ pub record Grants {H D : Type 0} (does : D → D → Step H → Type 0) (before 
       (nested (grant_up own recorder) (grant_down own lane recorder amount) at visits) after
   pub enough : amount ≤ left - granted_of visits
 
--- a call that grants nothing
-abbrev pub IsUngranted : {H : Type 0} → Step H → Type 0
-IsUngranted (Step.Grant held left own recorder amount (Ok done)) = ⊥
-IsUngranted other = Unit {0}
+-- What was held of a lane, as it was found and as it was asked whether it is open, its answer, and
+-- what a grant that was refused left of it, where one was tried, with the refusal.
+pub record Ungranting (H : Type 0) : Type 0 where
+  pub found : H
+  pub held : H
+  pub answer : Result ℕ Refusal
+  pub tried : Option (H × Refusal)
 
-abbrev pub AreUngranted : {H : Type 0} → List (Step H) → Type 0
-AreUngranted [] = Unit {0}
-AreUngranted (s ∷ ss) = IsUngranted s × AreUngranted ss
+abbrev pub ungrant_up : {H : Type 0} → Facts → ℕ → ℕ → Ungranting H → List (Step H)
+ungrant_up own recorder at v =
+    Step.Lock at v.found ∷ Step.MayGrant v.found v.held own recorder v.answer ∷ []
 
--- Refused, nothing was granted in any lane.
-pub record GrantsNothing {H D : Type 0} (does : D → D → Step H → Type 0) (before after : D)
-    : Type 0 where
-  pub taken : List (Step H)
-  pub did : Does does before taken after
-  pub none : AreUngranted taken
+abbrev pub after_try : {H : Type 0} → Facts → ℕ → ℕ → H → Option (H × Refusal) → List (Step H)
+after_try own recorder amount held None = Step.Unlock held ∷ []
+after_try own recorder amount held (Some (left, refusal)) =
+    Step.Grant held left own recorder amount (Err refusal) ∷ Step.Unlock left ∷ []
+
+abbrev pub ungrant_down : {H : Type 0} → Facts → ℕ → ℕ → ℕ → Ungranting H → List (Step H)
+ungrant_down own recorder amount at v = after_try own recorder amount v.held v.tried
+
+-- Refused, the lanes from a place on were asked in order, up to some, and nothing was granted.
+pub record GrantsNothing {H D : Type 0} (does : D → D → Step H → Type 0) (before : D) (at : ℕ)
+    (own : Facts) (recorder amount : ℕ) (after : D) : Type 0 where
+  pub visits : List (Ungranting H)
+  pub steps : Does does before
+      (nested (ungrant_up own recorder) (ungrant_down own recorder amount) at visits) after
 
 -- The lane of a recorder is at this place, and grants.
 pub record GrantsIn {L H D : Type 0} (does : D → D → Step H → Type 0) (count : L → ℕ)

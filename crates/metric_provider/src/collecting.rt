@@ -24,7 +24,8 @@ pub(crate) fn collect_all<R: Wait, L: Row>(
     requires { question.now.asked.reader < length question.now.facts.now.delta }
     ensures collects { IfOk result (λ batch. Collects L.does diary.old 0 (L.count row.now)
         question.now.facts.now question.now.asked None batch diary.new) }
-    ensures nothing { OnErr result (TakesNothing L.does diary.old diary.new) }
+    ensures nothing { OnErr result (TakesNothing L.does diary.old 0
+        question.now.facts.now question.now.asked diary.new) }
     ensures told { IfOk result (IsTold question.now.facts.now question.now.asked seen.old) }
     ensures seen { IfOk result (λ batch. seen.new ≡ seen_of batch) }
     ensures refused { IfErr result (λ refusal. RefusesCollection refusal) }
@@ -48,7 +49,8 @@ fn collect_from<R: Wait, L: Row>(
     requires before { IfSome before (IsGathered question.now.facts.now question.now.asked) }
     ensures collects { IfOk result (λ batch. Collects L.does diary.old at (L.count row.now)
         question.now.facts.now question.now.asked before batch diary.new) }
-    ensures nothing { OnErr result (TakesNothing L.does diary.old diary.new) }
+    ensures nothing { OnErr result (TakesNothing L.does diary.old at
+        question.now.facts.now question.now.asked diary.new) }
     ensures told { IfOk result (IsTold question.now.facts.now question.now.asked seen.old) }
     ensures seen { IfOk result (λ batch. seen.new ≡ seen_of batch) }
     ensures refused { IfErr result (λ refusal. RefusesCollection refusal) }

@@ -64,7 +64,8 @@ pub(crate) fn grant_in<R: Wait, L: Row>(
     requires { asked.now.recorder < length asked.now.facts.now.budgets }
     ensures grants { OnOk result (GrantsIn L.does L.count L.is_place diary.old row.now
         asked.now.facts.now asked.now.recorder asked.now.amount diary.new) }
-    ensures nothing { OnErr result (GrantsNothing L.does diary.old diary.new) }
+    ensures nothing { OnErr result (GrantsNothing L.does diary.old 0 asked.now.facts.now
+        asked.now.recorder asked.now.amount diary.new) }
     ensures answer { AnswersGrant (Some asked.now.facts.now) asked.now.recorder asked.now.amount result }
 {
     let lane = row.place_of(asked.recorder);
@@ -86,7 +87,8 @@ fn grant_from<R: Wait, L: Row>(
     requires recorder { asked.now.recorder < length asked.now.facts.now.budgets }
     ensures grants { OnOk result (Grants L.does diary.old at (L.count row.now) asked.now.facts.now
         left lane asked.now.recorder asked.now.amount diary.new) }
-    ensures nothing { OnErr result (GrantsNothing L.does diary.old diary.new) }
+    ensures nothing { OnErr result (GrantsNothing L.does diary.old at asked.now.facts.now
+        asked.now.recorder asked.now.amount diary.new) }
     ensures made { OnOk result (at ≤ lane → lane < L.count row.now
         → IsGranted asked.now.facts.now asked.now.recorder asked.now.amount) }
     ensures refused { IfErr result (λ refusal. AnswersGrant (Some asked.now.facts.now)

@@ -1,5 +1,5 @@
 //! The instruments of a plan behind their locks.
-ghost use Rattle.std.specs.Prelude.{◌≡◌, IsTrue, length, slice_get, vec_len};
+ghost use Rattle.std.specs.Prelude.{◌≡◌, ◌<◌, ◌↔◌, IsTrue, length, slice_get, vec_len};
 ghost use Rattle.metric_provider.specs.Closing.{AnswersClosing, HandsClosing};
 ghost use Rattle.metric_provider.specs.Granting.{AnswersGrant, HandsGrant};
 ghost use Rattle.metric_provider.specs.Providers.{IsProvider};
@@ -98,6 +98,17 @@ impl<B: Book, G: Gate> Provider<B, G> {
         ensures { result.now ≡ self.now.plan }
     {
         &self.plan
+    }
+
+    /// How many lanes an instrument has ([`start_with_lanes`](crate::start_with_lanes)): none where the plan has no
+    /// instrument of this number.
+    pub fn lanes(&self, instrument: u32) -> usize
+        ensures { (0 < result) ↔ (instrument < length self.now.plan.facts.instruments) }
+    {
+        match self.slots.get(instrument as usize) {
+            Some(lanes) => lanes.all().len(),
+            None => 0,
+        }
     }
 
     // For proofs alone: the facts of each instrument are those of a certified plan. The function does nothing.

@@ -15,17 +15,17 @@ use std::sync::Wait;
 use std::thread::{self, Threads};
 use std::time::Clock;
 
-// Two counters of two recorders.
+// Two counters of two recorders, who may both record on each: on the first one by its spare.
 const CATALOGUE: &str = "format = 1
 [[meter]]
 name = 'm'
 instrument = [
-    { name = 'A', kind = 'counter', range = [0, 3] },
+    { name = 'A', kind = 'counter', range = [0, 3], spare = 1 },
     { name = 'B', kind = 'counter', range = [0, 3] },
 ]
 [[recorder]]
 name = 'r0'
-budget = [{ instrument = 0, amount = 2 }]
+budget = [{ instrument = 0, amount = 2 }, { instrument = 1, amount = 1 }]
 [[recorder]]
 name = 'r1'
 budget = [{ instrument = 1, amount = 2 }]
@@ -61,17 +61,27 @@ enum By {
     NoCertificate,
 }
 
-// The seats that serve a run of the first two texts.
+// The seats that serve a run of the first two texts, and the lanes of its instruments, of which it has two.
 const SEATS: &str = "recorder 0
 recorder 1
 reader 0
 reader 1
+[1, 1, 0]
+";
+
+// The same with lanes.
+const SEATS_IN_LANES: &str = "recorder 0
+recorder 1
+reader 0
+reader 1
+[2, 2, 0]
 ";
 
 // Catalogues and configs, by what they are opened, and what they come to.
 const OPENED: &[(&str, &str, By, &str)] = &[
     (CATALOGUE, CONFIG, By::Lanes(1), SEATS),
-    (CATALOGUE, CONFIG, By::Lanes(2), SEATS),
+    (CATALOGUE, CONFIG, By::Lanes(2), SEATS_IN_LANES),
+    (CATALOGUE, CONFIG, By::Lanes(9), SEATS_IN_LANES),
     ("=", "=", By::Lanes(1), "catalogue 1 NotToml\n"),
     ("=", "=", By::Lanes(2), "catalogue 1 NotToml\n"),
     (CATALOGUE, "=", By::Lanes(1), "config 1 NotToml\n"),
@@ -150,7 +160,7 @@ fn opened<R: Wait>(
     open_certified(rt, alloc, catalogue, config, certificate, 5, runs)
 }
 
-// Writes the numbers of the seats that serve the run.
+// Writes the numbers of the seats that serve the run, and how many lanes instruments have.
 fn tell_seats<R: Abort>(page: &mut Page<'_, R>, service: &Service) {
     for seat in &service.recorders {
         if seat.admits(&service.provider, 0, &[], 0).is_ok() {
@@ -162,6 +172,8 @@ fn tell_seats<R: Abort>(page: &mut Page<'_, R>, service: &Service) {
         page.push("reader ");
         page.tell(seat.number());
     }
+    let provider = &service.provider;
+    page.tell([provider.lanes(0), provider.lanes(1), provider.lanes(2)]);
 }
 
 // The text of the certificate that is made for a catalogue and a config.

@@ -217,19 +217,14 @@ fn rolled_over<'a, R: Abort + Wait>(rt: &R, alloc: Global, seated: Seated<'a>) -
     (provider, recorders, readers)
 }
 
-// What they are answered by a provider whose first instrument is held, in its first run or in its third.
+// What they are answered by a provider whose first instrument is held.
 fn answers<R: Abort + Threads + Wait + Sync>(
     rt: &R,
     alloc: Global,
     case: &Case,
-    is_later: bool,
     flags: &Flags,
 ) -> Answers {
-    let mut seated = seated(rt, alloc, case.lanes, flags);
-    if is_later {
-        seated = rolled_over(rt, alloc, seated);
-    }
-    let (provider, recorders, readers) = seated;
+    let (provider, recorders, readers) = seated(rt, alloc, case.lanes, flags);
     both_answers(rt, alloc, &provider, (recorders, readers), case, flags)
 }
 
@@ -317,30 +312,27 @@ const CASES: &[Case] = &[
     },
 ];
 
-// Asserts what a case has of a provider in its first run or in its third.
-fn assert_case<R: Abort + Threads + Wait + Sync>(
-    rt: &R,
-    alloc: Global,
-    case: &Case,
-    is_later: bool,
-) {
-    let flags = flags_for(case);
-    let answers = answers(rt, alloc, case, is_later, &flags);
-    let is_seen = flags.is_seen.load(Ordering::SeqCst);
-    assert_equal(
-        rt,
-        (answers, is_seen),
-        ((Ok(()), case.answer), case.is_seen),
-    );
-}
-
 #[test]
 fn a_held_instrument_keeps_its_own_steps(rt: HostRuntime) {
     for case in CASES {
-        assert_case(&rt, rt.alloc(), case, false);
-        if case.is_seen {
-            assert_case(&rt, rt.alloc(), case, true);
-        }
+        let flags = flags_for(case);
+        let answers = answers(&rt, rt.alloc(), case, &flags);
+        let is_seen = flags.is_seen.load(Ordering::SeqCst);
+        assert_equal(
+            &rt,
+            (answers, is_seen),
+            ((Ok(()), case.answer), case.is_seen),
+        );
+    }
+}
+
+#[test]
+fn each_run_has_as_many_lanes(rt: HostRuntime) {
+    for case in CASES {
+        let flags = flags_for(case);
+        let first = seated(&rt, rt.alloc(), case.lanes, &flags);
+        let (provider, _recorders, _readers) = rolled_over(&rt, rt.alloc(), first);
+        assert_equal(&rt, provider.lanes(0), case.lanes as usize);
     }
 }
 

@@ -29,6 +29,8 @@ pub(crate) enum Act {
     Last,
     // What is left to each recorder on the first instrument, and of its spare.
     Left,
+    // How many lanes the first instrument has.
+    Lanes,
     // The seats of these recorders are kept. Of another provider, of the run of a number if there is one, the seat of a
     // recorder of this number stands after them.
     Keep(&'static [u32]),
@@ -168,6 +170,7 @@ fn do_act<R: Abort + Wait, B: Book>(
         Act::Readers => tell_readers(page, seats, true),
         Act::Last => tell_last(page, seats),
         Act::Left => tell_left(page, seats),
+        Act::Lanes => page.tell(seats.provider.lanes(0)),
         Act::Keep(numbers) => keep(rt, alloc, &mut seats.recorders, numbers),
         Act::Add(Some(run), number) => {
             let stranger = stranger::<R, B>(rt, alloc, run, number);

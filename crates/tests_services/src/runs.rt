@@ -525,58 +525,58 @@ done
 ([Total { count: 12, sum: 27 }], 1, 1)
 ";
 
-// How many lanes there may be, and an end that is refused: the seats of another run of the same number, in which each
-// recorded less, do not end this one, and a seat less neither.
+// How many lanes there may be, how many there are, and an end that is refused: the seats of another run of the same
+// number, in which each recorded less, do not end this one, and a seat less neither.
 const LANED: &[(u32, &[Act], &str)] = &[
     (
         1,
         &[Act::Bring(1, "", 6), Act::Finish],
-        "3 AuditMismatch\n6\n",
+        "1\n3 AuditMismatch\n6\n",
     ),
     (
         2,
         &[Act::Bring(1, "", 6), Act::Finish],
-        "3 AuditMismatch\n6\n",
+        "2\n3 AuditMismatch\n6\n",
     ),
     (
         6,
         &[Act::Bring(1, "", 6), Act::Finish],
-        "3 AuditMismatch\n6\n",
+        "6\n3 AuditMismatch\n6\n",
     ),
     (
         64,
         &[Act::Bring(1, "", 6), Act::RollOver(100, 3)],
-        "3 AuditMismatch\n6\n",
+        "6\n3 AuditMismatch\n6\n",
     ),
     (
         2,
         &[Act::Bring(1, "", 6), Act::RollOver(100, 3)],
-        "3 AuditMismatch\n6\n",
+        "2\n3 AuditMismatch\n6\n",
     ),
     (
         1,
         &[Act::Bring(1, "", 5), Act::Finish],
-        "1 RecorderMissing\n5\n",
+        "1\n1 RecorderMissing\n5\n",
     ),
     (
         2,
         &[Act::Bring(1, "", 5), Act::Finish],
-        "1 RecorderMissing\n5\n",
+        "2\n1 RecorderMissing\n5\n",
     ),
     (
         6,
         &[Act::Bring(1, "", 5), Act::Finish],
-        "1 RecorderMissing\n5\n",
+        "6\n1 RecorderMissing\n5\n",
     ),
     (
         64,
         &[Act::Bring(1, "", 5), Act::RollOver(100, 3)],
-        "1 RecorderMissing\n5\n",
+        "6\n1 RecorderMissing\n5\n",
     ),
     (
         2,
         &[Act::Bring(1, "", 5), Act::RollOver(100, 3)],
-        "1 RecorderMissing\n5\n",
+        "2\n1 RecorderMissing\n5\n",
     ),
 ];
 
@@ -587,6 +587,7 @@ const IN_LANES: &[Act] = &[
     Act::Ask(5, 0, 30_000),
     Act::Ask(0, 0, 40_000),
     Act::Left,
+    Act::Lanes,
     Act::Given(0),
     Act::Given(1),
     Act::Back,

@@ -1,7 +1,7 @@
-use Rattle.std.proofs.Common.{◌∙◌}
+use Rattle.std.proofs.Common.{◌∙◌, ◌+◌}
 use Rattle.std.proofs.lemmas.Result.{IfOk-weaker}
 use Rattle.metric_history.specs.declared.batch.Batch.{Batch}
-use Rattle.metric_provider.specs.Steps.{Collects, IsBatchOf, TakesNothing}
+use Rattle.metric_provider.specs.Steps.{Collects, IsBatchOf}
 use Rattle.metric_provider.proofs.StepLaws.{collects_more, collects_none, on_err, quiet_inside, quiet_more}
 use Rattle.metric_provider.proofs.collecting.+collect_from.Goals as goal
 
@@ -14,13 +14,13 @@ returns-then-at-count-clause-collects g t c =
     c.told.ensures.batch
 
 pub returns-then-at-count-clause-nothing : goal.returns-then-at-count-clause-nothing
-returns-then-at-count-clause-nothing g t c = on_err c.told.result _ (quiet_inside g.L.Row.does c.args.diary.now c.inside.new.diary c.inside.ensures)
+returns-then-at-count-clause-nothing g t c = on_err c.told.result _ (quiet_inside g.L.Row.does c.args.diary.now c.inside.new.diary c.args.at c.args.question.now.facts.now c.args.question.now.asked c.inside.ensures)
 
 pub returns-in-Err-clause-nothing : goal.returns-in-Err-clause-nothing
 returns-in-Err-clause-nothing g t c =
     quiet_more g.L.Row.does c.args.diary.now c.lock-held.new.diary c.report-own.new.diary c.inside-in-Err.new.diary c.unlock.new.diary c.args.at c.args.question.now.facts.now c.args.question.now.asked
     c.lock-held.result c.report-own.result c.lock-held.ensures c.report-own.ensures.does
-    (quiet_inside g.L.Row.does c.report-own.new.diary c.inside-in-Err.new.diary c.inside-in-Err.ensures) c.unlock.ensures
+    (quiet_inside g.L.Row.does c.report-own.new.diary c.inside-in-Err.new.diary (c.args.at + 1) c.args.question.now.facts.now c.args.question.now.asked c.inside-in-Err.ensures) c.unlock.ensures
 
 pub returns-in-Err-collect_from-clause-nothing : goal.returns-in-Err-collect_from-clause-nothing
 returns-in-Err-collect_from-clause-nothing g t c =

@@ -1,6 +1,5 @@
-use Rattle.std.proofs.Common.{◌∙◌, ◌≤◌, OnOk}
+use Rattle.std.proofs.Common.{◌∙◌, ◌+◌}
 use Rattle.std.proofs.lemmas.Result.{on_ok_weaker}
-use Rattle.metric_provider.specs.Steps.{Grants}
 use Rattle.metric_provider.proofs.StepLaws.{grants_here, grants_none, grants_other, on_err, ungranted_here, ungranted_inside, ungranted_more}
 use Rattle.metric_provider.proofs.governing.+grant_from.Goals as goal
 
@@ -12,19 +11,19 @@ returns-then-at-count-clause-grants g t c =
     (c.if-at-count.true ∙ c.count.ensures) c.inside.ensures is) c.enough.ensures.enough
 
 pub returns-then-at-count-clause-nothing : goal.returns-then-at-count-clause-nothing
-returns-then-at-count-clause-nothing g t c = on_err c.enough.result _ (ungranted_inside g.L.Row.does c.args.diary.now c.inside.new.diary c.inside.ensures)
+returns-then-at-count-clause-nothing g t c = on_err c.enough.result _ (ungranted_inside g.L.Row.does c.args.diary.now c.inside.new.diary c.args.at c.args.asked.now.facts.now c.args.asked.now.recorder c.args.asked.now.amount c.inside.ensures)
 
 pub returns-in-Err-clause-nothing : goal.returns-in-Err-clause-nothing
 returns-in-Err-clause-nothing g t c =
     let asked = c.args.asked.now in
-    ungranted_more g.L.Row.does c.args.diary.now c.lock-held.new.diary c.may_grant.new.diary c.inside-in-Err.new.diary c.unlock.new.diary c.args.at asked.facts.now asked.recorder
+    ungranted_more g.L.Row.does c.args.diary.now c.lock-held.new.diary c.may_grant.new.diary c.inside-in-Err.new.diary c.unlock.new.diary c.args.at asked.facts.now asked.recorder asked.amount
     c.lock-held.result c.may_grant.new.held c.may_grant.result c.lock-held.ensures c.may_grant.ensures.does
-    (ungranted_inside g.L.Row.does c.may_grant.new.diary c.inside-in-Err.new.diary c.inside-in-Err.ensures) c.unlock.ensures
+    (ungranted_inside g.L.Row.does c.may_grant.new.diary c.inside-in-Err.new.diary (c.args.at + 1) asked.facts.now asked.recorder asked.amount c.inside-in-Err.ensures) c.unlock.ensures
 
 pub returns-in-Err-grant_from-clause-nothing : goal.returns-in-Err-grant_from-clause-nothing
 returns-in-Err-grant_from-clause-nothing g t c =
     let asked = c.args.asked.now in
-    ungranted_more g.L.Row.does c.args.diary.now c.lock-held.new.diary c.may_grant.new.diary c.grant_from.new.diary c.unlock-in-Err-grant_from.new.diary c.args.at asked.facts.now asked.recorder
+    ungranted_more g.L.Row.does c.args.diary.now c.lock-held.new.diary c.may_grant.new.diary c.grant_from.new.diary c.unlock-in-Err-grant_from.new.diary c.args.at asked.facts.now asked.recorder asked.amount
     c.lock-held.result c.may_grant.new.held c.may_grant.result c.lock-held.ensures c.may_grant.ensures.does
     c.in-Err-grant_from.ensures.nothing c.unlock-in-Err-grant_from.ensures
 
