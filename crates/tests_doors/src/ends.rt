@@ -374,6 +374,26 @@ fn a_service_goes_on_without_a_seat(rt: HostRuntime) {
     page.assert(LOST);
 }
 
+// Each cause that is left is told, also those that only a seat which is not at rest can give.
+#[test]
+fn each_cause_is_told(rt: HostRuntime) {
+    let mut page = Page::new(&rt, rt.alloc());
+    let mut exporter = KeepingExporter::new(rt.alloc());
+    let service = hit_once(&rt, rt.alloc(), 1);
+    let (service, _recorders) = told(&page, service, "d", &mut exporter, 1);
+    match service.end(&rt, rt.alloc(), Vec::new(rt.alloc()), 10) {
+        Ok(_) => page.push("ended\n"),
+        Err(mut left) => {
+            left.is_counted = false;
+            left.are_seated = false;
+            page.say(&left);
+        }
+    }
+    page.assert(
+        "not ended: 1 RecorderMissing: r; recordings after the last collection; a reader has no seat in the next run\n",
+    );
+}
+
 // Each with its start and its time: what the next run collects at 20, and what was exported.
 const WINDOWS: &str = "(0, 10)
 (10, 20)
