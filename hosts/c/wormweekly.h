@@ -328,20 +328,23 @@ uint32_t wormweekly_record_prepared(wormweekly_instrument *instrument, wormweekl
 uint32_t wormweekly_record_list(wormweekly_instrument *instrument, wormweekly_recorder *recorder,
                                 const wormweekly_prepared *list, size_t list_length, size_t *made);
 
-/* Collects an instrument at a time in nanoseconds (under its mutex). The reader keeps the batch. A delta reader gets
- * what was recorded since its last batch, a cumulative one since the start. */
+/* Collects an instrument at a time in nanoseconds (under its mutex). The reader keeps the batch in place of those that
+ * it kept. A delta reader gets what was recorded since its last batch, a cumulative one since the start. */
 uint32_t wormweekly_collect(wormweekly_instrument *instrument, wormweekly_reader *reader, uint64_t now);
 
-/* Writes the text of the batch that the reader keeps, and its length. Where there is too little room, only the length
+/* The same; the reader keeps the batch behind those that it keeps, so that all of a collection are one message. */
+uint32_t wormweekly_collect_also(wormweekly_instrument *instrument, wormweekly_reader *reader, uint64_t now);
+
+/* Writes the text of the batches that the reader keeps, and its length. Where there is too little room, only the length
  * is written: ask again with more. The text is empty before a batch. Needs no mutex. */
 uint32_t wormweekly_text(wormweekly_reader *reader, uint8_t *out, size_t room, size_t *text_length);
 
-/* Writes that batch in the OpenTelemetry protocol (OTLP 1.x), with the attributes of the resource, which is what
+/* Writes those batches in the OpenTelemetry protocol (OTLP 1.x), with the attributes of the resource, which is what
  * produces the metrics, as {"service.name" = "shop"}: as a message ExportMetricsServiceRequest (json 0), which a
  * collector takes at /v1/metrics as application/x-protobuf, or as a line of JSON (1; WORMWEEKLY_UNKNOWN above), which
  * it takes as application/json. A resource has at most 64 attributes (WORMWEEKLY_TOO_MANY), none with an empty key
- * (WORMWEEKLY_EMPTY_KEY), and none twice (WORMWEEKLY_DUPLICATE_KEY). Nothing is written before a batch, and of one
- * without points. Messages one after the other are one request; each line of JSON is a post of its own, since a
+ * (WORMWEEKLY_EMPTY_KEY), and none twice (WORMWEEKLY_DUPLICATE_KEY). Nothing is written before a batch, and of
+ * batches without points. Messages one after the other are one request; each line of JSON is a post of its own, since a
  * collector reads the first of several alone. Where a collector did not take a request, keep it and send it before the
  * next one: a delta reader does not give its window again. Needs no mutex. */
 uint32_t wormweekly_otlp(wormweekly_reader *reader, uint32_t json, const uint8_t *texts, size_t texts_length,
@@ -358,7 +361,7 @@ uint32_t wormweekly_otlp(wormweekly_reader *reader, uint32_t json, const uint8_t
  * recorded. */
 uint32_t wormweekly_expose(wormweekly_reader *reader, uint8_t *fault, size_t fault_room, size_t *fault_length);
 
-/* Writes the lines of the batch that the reader keeps, none before one, and their length. Where there is too little
+/* Writes the lines of the batches that the reader keeps, none before one, and their length. Where there is too little
  * room, only the length is written. */
 uint32_t wormweekly_prometheus(wormweekly_reader *reader, uint32_t dialect, uint8_t *out, size_t room,
                                size_t *text_length);
@@ -379,7 +382,7 @@ uint32_t wormweekly_page(wormweekly_instrument *instruments, size_t instruments_
                          uint64_t now, uint32_t dialect, const wormweekly_pair *resource, size_t resource_length,
                          wormweekly_hold hold, void *host, uint8_t *out, size_t room, size_t *text_length);
 
-/* THE BATCH POINT BY POINT, for a host that writes a format of its own. Streams, points and keys are numbered from 0,
+/* THE LAST BATCH POINT BY POINT, for a host that writes a format of its own. Streams, points and keys are numbered from 0,
  * the streams within the batch. WORMWEEKLY_UNKNOWN says that there is none of a number. Where there is too little room
  * for a text, its length is written all the same. None needs a mutex. */
 

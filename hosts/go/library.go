@@ -380,8 +380,12 @@ func closeInstrument(own *handles, instrument int) uint32 {
 	return uint32(C.close_on(own.guard(instrument)))
 }
 
-func collect(own *handles, instrument, reader int, now uint64) uint32 {
-	return uint32(C.collect_on(own.guard(instrument), own.reader(reader), C.uint64_t(now)))
+func collect(own *handles, instrument, reader int, now uint64, keeps bool) uint32 {
+	beside := C.int(0)
+	if keeps {
+		beside = 1
+	}
+	return uint32(C.collect_on(own.guard(instrument), own.reader(reader), C.uint64_t(now), beside))
 }
 
 func settle(own *handles, instrument int) (Total, uint32) {
@@ -486,7 +490,7 @@ func batchText(own *handles, reader int) (string, uint32) {
 	})
 }
 
-// Writes the batch that a reader keeps, as a message or as a line.
+// Writes the batches that a reader keeps, as a message or as a line.
 func batchOTLP(own *handles, reader int, resource given, json int) ([]byte, uint32) {
 	return askBytes(func(out *C.uint8_t, room C.size_t, length *C.size_t) C.uint32_t {
 		return C.wormweekly_otlp(own.reader(reader), C.uint32_t(json), resource.texts, C.size_t(resource.length),

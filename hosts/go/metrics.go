@@ -449,6 +449,7 @@ type Reader struct {
 	mutex  sync.Mutex
 	number int
 	name   string
+	unsent bool // whether it keeps batches of all instruments that were not answered
 }
 
 // Name is the name.
@@ -494,8 +495,12 @@ func (reader *Reader) OTLPLine(instrument *Instrument, now time.Time, resource .
 	return reader.otlp(instrument, now, resource, 1)
 }
 
-// A resource that is not taken is told before a window is collected, which would be lost.
 func (reader *Reader) otlp(instrument *Instrument, now time.Time, resource []Attr, json int) ([]byte, error) {
+	return reader.encoded(func() error { return reader.collect(instrument, now) }, resource, json)
+}
+
+// A resource that is not taken is told before a window is collected, which would be lost.
+func (reader *Reader) encoded(collect func() error, resource []Attr, json int) ([]byte, error) {
 	of := giveMany(resource)
 	defer of.free()
 	reader.mutex.Lock()
@@ -503,11 +508,36 @@ func (reader *Reader) otlp(instrument *Instrument, now time.Time, resource []Att
 	if _, answer := batchOTLP(reader.run.handles, reader.number, of, json); answer != answerDone {
 		return nil, errorOf(answer)
 	}
-	if err := reader.collect(instrument, now); err != nil {
+	if err := collect(); err != nil {
 		return nil, err
 	}
 	out, answer := batchOTLP(reader.run.handles, reader.number, of, json)
-	return out, errorOn(instrument, answer)
+	if answer == answerDone {
+		reader.unsent = false
+	}
+	return out, errorOf(answer)
+}
+
+// OTLP collects all instruments, and answers them as one message, which is empty where there are no points: the
+// resource once, and the instruments of each meter side by side. Where an instrument is refused, those before it come
+// with the next message. Keep one that was not taken, as of Reader.OTLP.
+func (metrics *Metrics) OTLP(reader *Reader, now time.Time, resource ...Attr) ([]byte, error) {
+	return reader.encoded(func() error { return reader.collectAll(metrics, now) }, resource, 0)
+}
+
+// OTLPLine is the same as a line of JSON.
+func (metrics *Metrics) OTLPLine(reader *Reader, now time.Time, resource ...Attr) ([]byte, error) {
+	return reader.encoded(func() error { return reader.collectAll(metrics, now) }, resource, 1)
+}
+
+func (reader *Reader) collectAll(metrics *Metrics, now time.Time) error {
+	for _, instrument := range metrics.Instruments {
+		if err := reader.collectKept(instrument, now, reader.unsent); err != nil {
+			return err
+		}
+		reader.unsent = true
+	}
+	return nil
 }
 
 // Last is the batch that was collected last. Before one, the error is ErrNoBatch.
@@ -521,6 +551,11 @@ func (reader *Reader) Last() (Batch, error) {
 // Collects under the mutex of the reader. That of another run is refused before its handles are looked at, since a
 // roll-over of that run may be changing them.
 func (reader *Reader) collect(instrument *Instrument, now time.Time) error {
+	return reader.collectKept(instrument, now, false)
+}
+
+// The same; the batch is kept behind those that are kept, or alone.
+func (reader *Reader) collectKept(instrument *Instrument, now time.Time, keeps bool) error {
 	if instrument == nil {
 		return errorOf(answerUnknownInstrument)
 	}
@@ -532,5 +567,6 @@ func (reader *Reader) collect(instrument *Instrument, now time.Time) error {
 	}
 	instrument.mutex.Lock()
 	defer instrument.mutex.Unlock()
-	return errorOn(instrument, collect(reader.run.handles, instrument.number, reader.number, nanoseconds(now)))
+	answer := collect(reader.run.handles, instrument.number, reader.number, nanoseconds(now), keeps)
+	return errorOn(instrument, answer)
 }

@@ -162,6 +162,26 @@ func TestOTLP(t *testing.T) {
 	}
 }
 
+func TestOneMessage(t *testing.T) {
+	metrics, _, second, requests := opened(t)
+	all, shop := metrics.Readers[0], String("service.name", "shop")
+	if got := must(metrics.OTLP(all, at(10), shop))(t); len(got) != 0 {
+		t.Errorf("%q", got)
+	}
+	done(t, second.Record(requests, 42, home...))
+	done(t, second.Record(must(metrics.Instrument("temperature"))(t), -7))
+	message := must(metrics.OTLP(all, at(20), shop))(t)
+	for _, word := range []string{"service.name", "requests", "temperature"} {
+		if count := bytes.Count(message, []byte(word)); count != 1 {
+			t.Errorf("%s: %d in %q", word, count, message)
+		}
+	}
+	line := must(metrics.OTLPLine(all, at(30), shop))(t)
+	if count := bytes.Count(line, []byte("scopeMetrics")); count != 1 || line[len(line)-1] != '\n' {
+		t.Errorf("%q", line)
+	}
+}
+
 func TestNoRecorder(t *testing.T) {
 	instrument := "[[meter.instrument]]\nname = 'i'\nkind = 'counter'\nrange = [0, 1]\n"
 	metrics := must(Open("format = 1\n[[meter]]\nname = 'm'\n"+instrument, testConfig))(t)

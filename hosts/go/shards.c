@@ -82,8 +82,9 @@ uint32_t spare_on(guarded *on, wormweekly_spare_out *spare) {
 
 uint32_t close_on(guarded *on) { return given_back(on, wormweekly_close(take(on))); }
 
-uint32_t collect_on(guarded *on, wormweekly_reader *reader, uint64_t now) {
-    return given_back(on, wormweekly_collect(take(on), reader, now));
+uint32_t collect_on(guarded *on, wormweekly_reader *reader, uint64_t now, int keeps) {
+    wormweekly_instrument *held = take(on);
+    return given_back(on, keeps ? wormweekly_collect_also(held, reader, now) : wormweekly_collect(held, reader, now));
 }
 
 uint32_t settle_on(guarded *on, wormweekly_recorder *recorders, size_t count, wormweekly_total *total) {

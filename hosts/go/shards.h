@@ -97,7 +97,7 @@ uint32_t explain_by(uint8_t *at, uint32_t *taken, GIVEN, int64_t value, uint8_t 
 uint32_t grant_on(guarded *on, uint64_t *spent, uint32_t recorder, uint64_t amount);
 uint32_t spare_on(guarded *on, wormweekly_spare_out *spare);
 uint32_t close_on(guarded *on);
-uint32_t collect_on(guarded *on, wormweekly_reader *reader, uint64_t now);
+uint32_t collect_on(guarded *on, wormweekly_reader *reader, uint64_t now, int keeps);
 uint32_t settle_on(guarded *on, wormweekly_recorder *recorders, size_t count, wormweekly_total *total);
 void waits_on(guarded *on, uint64_t *waits, uint64_t *longest);
 

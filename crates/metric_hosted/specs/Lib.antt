@@ -4,4 +4,5 @@ pub mod Grants
 pub mod Budgets
 pub mod Listings
 pub mod Collections
+pub mod Readers
 pub mod Settlements

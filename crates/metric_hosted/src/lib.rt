@@ -18,5 +18,5 @@ pub use instrument::Hosted;
 pub use metric_seat::{
     FinishFault, Measurement, ReaderSeat, RecorderSeat, RunId, SetsFault, Total,
 };
-pub use planned::{HostedReader, HostedRecorder};
+pub use planned::{Batches, HostedReader, HostedRecorder};
 pub use settling::SeatTold;

@@ -1,6 +1,5 @@
 -- Requests as lines of JSON.
-use Rattle.std.specs.Prelude.{ℕ, List, [], ◌∷◌, ◌++◌, codes}
-use Rattle.std.specs.Option.{option_map_or}
+use Rattle.std.specs.Prelude.{◌==◌, ℕ, if◌then◌else◌, List, [], ◌∷◌, ◌++◌, codes, length}
 use Rattle.metric_text.specs.Lists.{joined}
 use Rattle.metric_contents.specs.Attributes.{given_by_owned}
 use Rattle.metric_contents.specs.declared.attributes.OwnedAttr.{OwnedAttr}
@@ -16,7 +15,7 @@ use Rattle.metric_otlp.specs.Json.{enum_member, flag_member, items_member, objec
 use Rattle.metric_otlp.specs.Json.{some_text_member}
 use Rattle.metric_otlp.specs.Metrics.{bounds_of, covers, rises}
 use Rattle.metric_otlp.specs.PointsJson.{point_json}
-use Rattle.metric_otlp.specs.Reports.{Report, ReportedStream, report_of}
+use Rattle.metric_otlp.specs.Reports.{Report, ReportedStream, reports_of}
 use Rattle.metric_otlp.specs.SeriesJson.{attribute_json}
 
 -- the points of a stream
@@ -42,17 +41,13 @@ data_name Sum = codes "sum"
 data_name (Histogram boundaries) = codes "histogram"
 
 -- a stream's metric
-unfoldable pub metric_json : List Key → Batch → ReportedStream → List ℕ
-metric_json keys batch reported = object (
+unfoldable pub metric_json : ReportedStream → List ℕ
+metric_json reported = object (
     some_text_member (codes "name") reported.stream.name
     ∷ some_text_member (codes "description") reported.stream.description
     ∷ some_text_member (codes "unit") reported.stream.unit
     ∷ object_member (data_name reported.stream.aggregation)
-    (data_json keys batch reported.stream reported.points) ∷ [])
-
--- a metric for each stream
-abbrev pub metrics_json : List Key → Batch → List ReportedStream → List ℕ
-metrics_json keys batch streams = joined (metric_json keys batch) streams
+    (data_json reported.keys reported.batch reported.stream reported.points) ∷ [])
 
 -- a meter's name and version
 unfoldable pub meter_json : Meter → List ℕ
@@ -68,10 +63,9 @@ scoped_json scope metrics schema_url = object (
     ∷ some_text_member (codes "schemaUrl") schema_url ∷ [])
 
 -- the metrics of a meter
-abbrev pub scope_json : Batch → Report → List ℕ
-scope_json batch report =
-    scoped_json (meter_json report.meter) (metrics_json report.keys batch report.streams)
-    report.meter.schema_url
+abbrev pub scope_json : Report → List ℕ
+scope_json report =
+    scoped_json (meter_json report.meter) (joined metric_json report.streams) report.meter.schema_url
 
 -- the attributes of a resource
 unfoldable pub resource_json : List OwnedAttr → List ℕ
@@ -79,23 +73,23 @@ resource_json resource = object (
     items_member (codes "attributes")
     (joined (λ attribute. attribute_json (given_by_owned attribute)) resource) ∷ [])
 
--- the metrics of a resource, of one scope
-unfoldable pub reported_json : List OwnedAttr → Batch → Report → List ℕ
-reported_json resource batch report = object (
+-- the metrics of a resource, of some scopes
+unfoldable pub reported_json : List OwnedAttr → List Report → List ℕ
+reported_json resource reports = object (
     object_member (codes "resource") (resource_json resource)
-    ∷ items_member (codes "scopeMetrics") (scope_json batch report) ∷ [])
+    ∷ items_member (codes "scopeMetrics") (joined scope_json reports) ∷ [])
 
--- the request of what a batch reports
-unfoldable pub request_json : List OwnedAttr → Batch → Report → List ℕ
-request_json resource batch report =
-    object (items_member (codes "resourceMetrics") (reported_json resource batch report) ∷ [])
+-- the request of what is reported
+unfoldable pub request_json : List OwnedAttr → List Report → List ℕ
+request_json resource reports =
+    object (items_member (codes "resourceMetrics") (reported_json resource reports) ∷ [])
 
--- the same as a line
-abbrev pub report_line : List OwnedAttr → Batch → Report → List ℕ
-report_line resource batch report = request_json resource batch report ++ codes "\n"
+-- the same as a line, no line of nothing
+abbrev pub report_line : List OwnedAttr → List Report → List ℕ
+report_line resource reports =
+    if length reports == 0 then [] else request_json resource reports ++ codes "\n"
 
 -- # line (OTLP, JSON encoding)
 -- The same request as a line of JSON.
-abbrev pub line : List OwnedAttr → Contents → List Stream → Batch → List ℕ
-line resource catalogue streams batch =
-    option_map_or (report_line resource batch) (report_of catalogue streams batch) []
+abbrev pub line : List OwnedAttr → Contents → List Stream → List Batch → List ℕ
+line resource catalogue streams batches = report_line resource (reports_of catalogue streams batches)

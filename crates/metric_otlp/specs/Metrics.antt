@@ -76,6 +76,6 @@ metric_message keys batch stream points = concat (
 
 -- # metric, scope (OTLP, metrics)
 -- A message `Metric` for each stream of a report; a `ScopeMetrics` of them.
-abbrev pub metric_field : List Key → Batch → ReportedStream → List ℕ
-metric_field keys batch reported =
-    block 2 (metric_message keys batch reported.stream reported.points)
+abbrev pub metric_field : ReportedStream → List ℕ
+metric_field reported =
+    block 2 (metric_message reported.keys reported.batch reported.stream reported.points)

@@ -4,7 +4,7 @@ ghost use Rattle.std.specs.List.{flat_map};
 ghost use Rattle.metric_otlp.specs.Metrics.{bounds_of, covers, data_message, data_number, metric_field, metric_head};
 ghost use Rattle.metric_otlp.specs.Metrics.{points_fields, rises, temporality_number};
 ghost use Rattle.metric_otlp.specs.Reported.{report_by, reported_by};
-ghost use Rattle.metric_otlp.specs.Scopes.{meter_message, metrics_fields, scope_message};
+ghost use Rattle.metric_otlp.specs.Scopes.{meter_message, scope_message};
 ghost use Rattle.metric_otlp.specs.Series.{text_field};
 ghost use Rattle.metric_wire.specs.Wire.{block};
 
@@ -12,25 +12,22 @@ use crate::field::{push_number, push_text};
 use crate::point::{Common, push_point};
 use crate::report::{Report, Reported};
 use crate::series::{Form, Series};
-use metric_contents::{Key, Kind, Meter};
-use metric_history::{Batch, Point};
+use metric_contents::{Kind, Meter};
 use metric_views::{Stream, StreamAggregation, Temporality};
 use metric_wire::{begin_block, end_block, push_block_head, push_block_of_two};
 use std::alloc::{AllocError, Global};
 
-/// Writes what a batch reports: its meter, a metric for each stream, and the meter's schema URL.
+/// Writes what is reported of a meter: its names, a metric for each stream, and its schema URL.
 #[tactic(auto, unfolding(crate::specs::Scopes::scope_message))]
 pub(crate) fn push_scope(
     alloc: Global,
     out: &mut Vec<u8>,
-    batch: &Batch,
     report: &Report<'_>,
 ) -> Result<(), AllocError>
-    ensures { OnOk result (out.new.items
-        ≡ out.old.items ++ scope_message batch.now (report_by report.now)) }
+    ensures { OnOk result (out.new.items ≡ out.old.items ++ scope_message (report_by report.now)) }
 {
     push_meter(out, report.meter)?;
-    push_metrics(alloc, out, report.keys, batch, report.streams.as_slice())?;
+    push_metrics(alloc, out, report.streams.as_slice())?;
     push_text(out, 3, report.meter.schema_url.as_str())
 }
 
@@ -51,40 +48,30 @@ fn push_meter_names(out: &mut Vec<u8>, meter: &Meter) -> Result<(), AllocError>
     push_text(out, 2, meter.version.as_str())
 }
 
+#[tactic(auto, using(metric_text::specs::ListLaws::steps))]
 fn push_metrics(
     alloc: Global,
     out: &mut Vec<u8>,
-    keys: &[Key],
-    batch: &Batch,
     streams: &[Reported<'_>],
 ) -> Result<(), AllocError>
     ensures { OnOk result (out.new.items ≡ out.old.items
-        ++ metrics_fields keys.now batch.now (map reported_by streams.now)) }
+        ++ flat_map metric_field (map reported_by streams.now)) }
 {
-    let Some((reported, streams)) = streams.split_first() else {
-        return Ok(());
-    };
-    push_metric(alloc, out, keys, batch, reported.stream, reported.points)?;
-    push_metrics(alloc, out, keys, batch, streams)
+    for reported in streams {
+        push_metric(alloc, out, reported)?;
+    }
+    Ok(())
 }
 
 // Writes a message `Metric`.
 #[tactic(auto, unfolding(crate::specs::Metrics::metric_message), using(crate::proofs::RowLaws::head_and_data))]
-fn push_metric(
-    alloc: Global,
-    out: &mut Vec<u8>,
-    keys: &[Key],
-    batch: &Batch,
-    stream: &Stream,
-    points: &[Point],
-) -> Result<(), AllocError>
-    ensures { OnOk result (out.new.items ≡ out.old.items
-        ++ metric_field keys.now batch.now (record { stream = stream.now; points = points.now })) }
+fn push_metric(alloc: Global, out: &mut Vec<u8>, reported: &Reported<'_>) -> Result<(), AllocError>
+    ensures { OnOk result (out.new.items ≡ out.old.items ++ metric_field (reported_by reported.now)) }
 {
     let mut data = Vec::new(alloc);
-    push_data(alloc, &mut data, keys, batch, stream, points)?;
+    push_data(alloc, &mut data, reported)?;
     let mut head = Vec::new(alloc);
-    push_head(&mut head, stream, data.len())?;
+    push_head(&mut head, reported.stream, data.len())?;
     push_block_of_two(out, 2, head.as_slice(), data.as_slice())
 }
 
@@ -99,34 +86,29 @@ fn push_head(out: &mut Vec<u8>, stream: &Stream, count: usize) -> Result<(), All
 }
 
 // Writes the points of a stream, and what they are.
-fn push_data(
-    alloc: Global,
-    out: &mut Vec<u8>,
-    keys: &[Key],
-    batch: &Batch,
-    stream: &Stream,
-    points: &[Point],
-) -> Result<(), AllocError>
+fn push_data(alloc: Global, out: &mut Vec<u8>, reported: &Reported<'_>) -> Result<(), AllocError>
     ensures { OnOk result (out.new.items ≡ out.old.items
-        ++ data_message keys.now batch.now stream.now points.now) }
+        ++ data_message reported.now.keys.now reported.now.batch.now reported.now.stream.now
+        reported.now.points.now) }
 {
-    push_points(alloc, out, keys, batch, stream, points)?;
+    let stream = reported.stream;
+    push_points(alloc, out, reported)?;
     push_number(out, 2, covers(stream.temporality, &stream.aggregation))?;
     push_number(out, 3, u64::from(rises(stream.kind, &stream.aggregation)))
 }
 
 #[tactic(auto, using(metric_text::specs::ListLaws::steps))]
-fn push_points(
-    alloc: Global,
-    out: &mut Vec<u8>,
-    keys: &[Key],
-    batch: &Batch,
-    stream: &Stream,
-    points: &[Point],
-) -> Result<(), AllocError>
+fn push_points(alloc: Global, out: &mut Vec<u8>, reported: &Reported<'_>) -> Result<(), AllocError>
     ensures { OnOk result (out.new.items ≡ out.old.items
-        ++ points_fields keys.now batch.now stream.now points.now) }
+        ++ points_fields reported.now.keys.now reported.now.batch.now reported.now.stream.now
+        reported.now.points.now) }
 {
+    let Reported {
+        keys,
+        batch,
+        stream,
+        points,
+    } = *reported;
     let form = Form::Bytes(attributes_number(&stream.aggregation));
     let kept = stream.kept.get().as_slice();
     let series = Series::new(alloc, form, keys, kept, points.len())?;

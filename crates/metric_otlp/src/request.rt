@@ -1,29 +1,30 @@
-//! The request of a batch.
-ghost use Rattle.std.specs.Prelude.{◌≡◌, ◌++◌, OnOk};
+//! The request of batches.
+ghost use Rattle.std.specs.Prelude.{◌≡◌, ◌++◌, OnOk, map};
 ghost use Rattle.std.specs.List.{flat_map};
-ghost use Rattle.metric_contents.specs.Attributes.{given_by_owned};
 ghost use Rattle.metric_wire.specs.Wire.{block};
 ghost use Rattle.metric_otlp.specs.Reported.{report_by};
-ghost use Rattle.metric_otlp.specs.Requests.{reported_message, request, resource_message};
+ghost use Rattle.metric_otlp.specs.Requests.{report_request, request, resource_message};
+ghost use Rattle.metric_otlp.specs.Scopes.{scope_field};
 
 use crate::attribute::push_attribute;
 use crate::metric::push_scope;
-use crate::report::{Report, report_of};
+use crate::report::{Report, reports_of};
 use metric_catalogue::Catalogue;
 use metric_contents::OwnedAttr;
 use metric_history::Batch;
 use metric_resource::Resource;
 use metric_views::Stream;
-use metric_wire::{push_block, push_block_head, push_block_of_two};
+use metric_wire::push_block;
 use std::alloc::{AllocError, Global};
 
-/// Writes a batch as a message `ExportMetricsServiceRequest` (opentelemetry.proto.collector.metrics.v1): one
-/// `ResourceMetrics` with the attributes of the resource and one `ScopeMetrics`, of the meter of the batch's
-/// instrument; in it a `Metric` for each stream that has points, with its name, description and unit as they were
-/// declared.
+/// Writes the batches of a collection as a message `ExportMetricsServiceRequest`
+/// (opentelemetry.proto.collector.metrics.v1): one `ResourceMetrics` with the attributes of the resource, and in it a
+/// `ScopeMetrics` for each meter with points; in that a `Metric` for each stream that has points, with its name,
+/// description and unit as they were declared. Meters are in the order of the catalogue, streams in that of the
+/// batches.
 ///
-/// The streams are those of the plan, numbered from 0. A batch without points, or of no instrument of the catalogue,
-/// is no bytes, and a stream whose number is not there is left out. Numbers are exact, but for sums, least and
+/// The streams are those of the plan, numbered from 0. Batches without points, or of no instrument of the catalogue,
+/// are no bytes, and a stream whose number is not there is left out. Numbers are exact, but for sums, least and
 /// greatest values of histograms, which are the doubles nearest to them: exact up to 2^53. Times are in nanoseconds;
 /// 0 is not written, as "unknown".
 ///
@@ -34,35 +35,45 @@ pub fn push_request(
     resource: &Resource,
     catalogue: &Catalogue,
     streams: &[Stream],
-    batch: &Batch,
+    batches: &[Batch],
 ) -> Result<(), AllocError>
     ensures { OnOk result (out.new.items ≡ out.old.items
-        ++ request resource.now catalogue.now streams.now batch.now) }
+        ++ request resource.now catalogue.now streams.now batches.now) }
 {
-    match report_of(alloc, catalogue, streams, batch)? {
-        None => Ok(()),
-        Some(report) => push_report(alloc, out, resource, batch, &report),
-    }
+    let reports = reports_of(alloc, catalogue, streams, batches)?;
+    push_reports(alloc, out, resource, reports.as_slice())
 }
 
-// Writes a message `ResourceMetrics`.
-#[tactic(auto, using(metric_wire::specs::HeadLaws::begun_block))]
-fn push_report(
+// Writes a message `ResourceMetrics`, unless nothing is reported.
+fn push_reports(
     alloc: Global,
     out: &mut Vec<u8>,
     resource: &Resource,
-    batch: &Batch,
-    report: &Report<'_>,
+    reports: &[Report<'_>],
 ) -> Result<(), AllocError>
     ensures { OnOk result (out.new.items ≡ out.old.items
-        ++ block 1 (reported_message resource.now batch.now (report_by report.now))) }
+        ++ report_request resource.now (map report_by reports.now)) }
 {
-    let mut scope = Vec::new(alloc);
-    push_scope(alloc, &mut scope, batch, report)?;
-    let mut head = Vec::new(alloc);
-    push_resource(alloc, &mut head, resource.as_slice())?;
-    push_block_head(&mut head, 2, scope.len())?;
-    push_block_of_two(out, 1, head.as_slice(), scope.as_slice())
+    if reports.is_empty() {
+        return Ok(());
+    }
+    let mut message = Vec::new(alloc);
+    push_resource(alloc, &mut message, resource.as_slice())?;
+    push_scopes(alloc, &mut message, reports)?;
+    push_block(out, 1, message.as_slice())
+}
+
+#[tactic(auto, using(metric_text::specs::ListLaws::steps))]
+fn push_scopes(alloc: Global, out: &mut Vec<u8>, reports: &[Report<'_>]) -> Result<(), AllocError>
+    ensures { OnOk result (out.new.items ≡ out.old.items
+        ++ flat_map scope_field (map report_by reports.now)) }
+{
+    for report in reports {
+        let mut scope = Vec::new(alloc);
+        push_scope(alloc, &mut scope, report)?;
+        push_block(out, 2, scope.as_slice())?;
+    }
+    Ok(())
 }
 
 fn push_resource(

@@ -1,5 +1,5 @@
 //! Batches as OTLP requests.
-ghost use Rattle.std.specs.Prelude.{◌≡◌, [], Err, IfOk, MatchResult, Ok, OnOk};
+ghost use Rattle.std.specs.Prelude.{◌≡◌, ◌∷◌, [], Err, IfOk, MatchResult, Ok, OnOk};
 ghost use Rattle.metric_exposure.specs.Exposures.{exposure_faults};
 ghost use Rattle.metric_exposure.specs.declared.outlet.Outlet.TheVariants.{Otlp};
 ghost use Rattle.metric_otlp.specs.Requests.{request};
@@ -14,6 +14,7 @@ use metric_plan::Plan;
 use metric_resource::Resource;
 use std::alloc::{AllocError, Global};
 use std::marker::Model;
+use std::slice::from_ref;
 
 /// Each batch as a message `ExportMetricsServiceRequest`: the body of a post to `/v1/metrics` of an OpenTelemetry
 /// receiver. Messages one after the other are one message. A batch without points is nothing, one
@@ -55,7 +56,7 @@ impl OtlpBytes {
 }
 
 impl Encoding for OtlpBytes {
-    ghost text = { λ e plan batch. request e.resource plan.facts.contents plan.streams batch };
+    ghost text = { λ e plan batch. request e.resource plan.facts.contents plan.streams (batch ∷ []) };
 
     ghost takes = { λ e. is_served e.served };
 
@@ -76,7 +77,7 @@ impl Encoding for OtlpBytes {
             &self.resource,
             plan.catalogue(),
             plan.streams(),
-            batch,
+            from_ref(batch),
         )
     }
 }

@@ -1,5 +1,5 @@
 //! Batches as lines of OTLP/JSON.
-ghost use Rattle.std.specs.Prelude.{◌≡◌, [], Err, IfOk, MatchResult, Ok, OnOk};
+ghost use Rattle.std.specs.Prelude.{◌≡◌, ◌∷◌, [], Err, IfOk, MatchResult, Ok, OnOk};
 ghost use Rattle.metric_exposure.specs.Exposures.{exposure_faults};
 ghost use Rattle.metric_exposure.specs.declared.outlet.Outlet.TheVariants.{Otlp};
 ghost use Rattle.metric_otlp.specs.Lines.{line};
@@ -14,6 +14,7 @@ use metric_plan::Plan;
 use metric_resource::Resource;
 use std::alloc::{AllocError, Global};
 use std::marker::Model;
+use std::slice::from_ref;
 
 /// Each batch as a line of OTLP/JSON: what the OpenTelemetry Collector's file exporter writes and its file receiver
 /// reads. A batch without points is nothing, one of another reader is refused.
@@ -54,7 +55,7 @@ impl OtlpLines {
 }
 
 impl Encoding for OtlpLines {
-    ghost text = { λ e plan batch. line e.resource plan.facts.contents plan.streams batch };
+    ghost text = { λ e plan batch. line e.resource plan.facts.contents plan.streams (batch ∷ []) };
 
     ghost takes = { λ e. is_served e.served };
 
@@ -75,7 +76,7 @@ impl Encoding for OtlpLines {
             &self.resource,
             plan.catalogue(),
             plan.streams(),
-            batch,
+            from_ref(batch),
         )
     }
 }

@@ -2,4 +2,3 @@ pub mod Wire
 pub mod Reading
 pub mod Closing
 pub mod ClosingLaws
-pub mod HeadLaws

@@ -12,6 +12,7 @@ use metric_plan::Plan;
 use metric_resource::{Resource, ResourceFault};
 use std::alloc::Global;
 use std::process::Abort;
+use std::slice::from_ref;
 
 const SHOP: Attr<'static> = Attr {
     key: "service.name",
@@ -158,8 +159,17 @@ fn push_batch<R: Abort>(
 ) {
     let (catalogue, streams) = (plan.catalogue(), plan.streams());
     match form {
-        Form::Request => push_request(alloc, out, resource, catalogue, streams, batch).or_fail(rt),
-        Form::Line => push_line(alloc, out, resource, catalogue, streams, batch).or_fail(rt),
+        Form::Request => push_request(
+            alloc,
+            out,
+            resource,
+            catalogue,
+            streams,
+            from_ref(batch),
+        ).or_fail(rt),
+        Form::Line => push_line(alloc, out, resource, catalogue, streams, from_ref(batch)).or_fail(
+            rt,
+        ),
         Form::Page(dialect) => {
             push_exposition(alloc, out, dialect, catalogue, streams, batch).or_fail(rt)
         }

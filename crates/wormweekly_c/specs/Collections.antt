@@ -1,43 +1,10 @@
 -- What collections through handles are answered.
-use Rattle.std.specs.Prelude.{◌≡◌, ℕ, List, [], Option, Some, None, Result, Ok, Err}
-use Rattle.metric_contents.specs.declared.refusal.Refusal.{Refusal}
-use Rattle.metric_core.specs.CellAnswers.{KeepsJournal, ReportsBatch}
-use Rattle.metric_facts.specs.declared.facts.Facts.{Facts}
-use Rattle.metric_history.specs.declared.batch.Batch.{Batch}
+use Rattle.std.specs.Prelude.{ℕ, List}
+use Rattle.std.specs.List.{flat_map}
 use Rattle.metric_lines.specs.Batches.{batch_text}
-use Rattle.metric_marked.specs.Marks.{StandsMarked}
-use Rattle.metric_seat.specs.Collections.{with_seen}
 use Rattle.metric_hosted.specs.declared.planned.HostedReader.{HostedReader}
-use Rattle.metric_hosted.specs.Collections.{AnswersReading, allowance_of, with_collected}
-use Rattle.metric_hosted.specs.Hosts.{HostedValue, number_of}
 
--- the facts of the instrument of which a reader may collect, or the first refusal
-abbrev pub allowance : HostedValue → HostedReader → Result Facts Refusal
-allowance h own = allowance_of own.plan h own.seat
-
--- # collected through handles (SDK, collect) [Refuses, Collects]
--- What a collection is refused for; the instrument and the reader after it, which holds the batch.
-abbrev pub Refuses : HostedValue → HostedReader → ℕ → Result (Unit {0}) Refusal → Type 0
-Refuses h own now (Ok done) = Unit {0}
-Refuses h own now (Err refusal) = AnswersReading (allowance h own) h own.seat now (Err refusal)
-
--- The instrument and the reader after a collection at a time: the batch that the reader keeps is
--- the one that goes on where its last one ended, of the recordings for which the instrument stands.
-pub record Collects (now : ℕ) (old new : HostedValue) (before after : HostedReader) : Type 0 where
-  pub batch : Batch
-  pub kept : after.last ≡ Some batch
-  pub plan : after.plan ≡ before.plan
-  pub answer : AnswersReading (allowance old before) old before.seat now (Ok batch)
-  pub reports : ReportsBatch StandsMarked old.cell before.seat.number now batch
-  pub stands : KeepsJournal StandsMarked old.cell new.cell
-  pub is : new ≡ with_collected old before.seat.number batch.time new.cell.book
-  pub seen : after.seat ≡ with_seen before.seat (number_of old) batch
-
--- the text of the batch that a reader keeps, none before one
+-- the text of the batches that a reader keeps, none before one
 abbrev pub text_of : HostedReader → List ℕ
-text_of own = batch_or_none own.last
-  where
-    batch_or_none : Option Batch → List ℕ
-    batch_or_none None = []
-    batch_or_none (Some batch) =
-        batch_text own.plan.facts.contents own.plan.config own.plan.streams batch
+text_of own =
+    flat_map (batch_text own.plan.facts.contents own.plan.config own.plan.streams) own.kept

@@ -79,7 +79,7 @@ new_reader_of plan run number =
     Some (Reader (record {
       plan = plan;
       seat = new_collector run (length plan.facts.instruments) number;
-      last = None;
+      kept = [];
     }))
 
 abbrev pub new_readers : PlanValue → RunId → List (Option Held)

@@ -1,9 +1,8 @@
 -- Batches that go out in the encodings of OTLP.
 use Rattle.std.specs.Prelude.{◌≡◌, ◌==◌, ℕ, List, [], Option, Some, None, Result, Ok, Err}
 use Rattle.std.specs.Prelude.{if◌then◌else◌}
-use Rattle.std.specs.Option.{option_map_or, MatchOption}
+use Rattle.std.specs.Option.{MatchOption}
 use Rattle.metric_contents.specs.declared.attributes.OwnedAttr.{OwnedAttr}
-use Rattle.metric_history.specs.declared.batch.Batch.{Batch}
 use Rattle.metric_hosted.specs.declared.planned.HostedReader.{HostedReader}
 use Rattle.metric_otlp.specs.Lines.{line}
 use Rattle.metric_otlp.specs.Requests.{request}
@@ -11,18 +10,16 @@ use Rattle.metric_resource.specs.declared.fault.ResourceFault.{ResourceFault}
 use Rattle.wormweekly_c.specs.Resources.{number_of_fault}
 use Rattle.wormweekly_c.specs.Texts.{AnswersText}
 
--- the request of the batch that a reader keeps, empty before one
+-- the request of the batches that a reader keeps, empty before one
 abbrev pub request_of : HostedReader → List OwnedAttr → List ℕ
-request_of own resource =
-    option_map_or (request resource own.plan.facts.contents own.plan.streams) own.last []
+request_of own resource = request resource own.plan.facts.contents own.plan.streams own.kept
 
 -- the same as a line of JSON
 abbrev pub line_of : HostedReader → List OwnedAttr → List ℕ
-line_of own resource =
-    option_map_or (line resource own.plan.facts.contents own.plan.streams) own.last []
+line_of own resource = line resource own.plan.facts.contents own.plan.streams own.kept
 
--- # batch that leaves (OTLP; Prometheus) [encoded, AnswersOtlp]
--- The batch that a reader keeps as a request or a line of OTLP, and as lines of a page; none before
+-- # batches that leave (OTLP; Prometheus) [encoded, AnswersOtlp]
+-- The batches that a reader keeps as a request or a line of OTLP, and as lines of a page; none before
 -- one.
 abbrev pub encoded : ℕ → HostedReader → List OwnedAttr → Option (List ℕ)
 encoded json own resource =

@@ -1,7 +1,7 @@
 -- What batches and resources are in a page for Prometheus.
 use Rattle.std.specs.Prelude.{◌≡◌, ◌==◌, ℕ, List, [], Option, Some, None, Result, Ok, Err}
 use Rattle.std.specs.Prelude.{if◌then◌else◌}
-use Rattle.std.specs.Option.{option_map_or}
+use Rattle.std.specs.List.{flat_map}
 use Rattle.metric_contents.specs.declared.attributes.OwnedAttr.{OwnedAttr}
 use Rattle.metric_exposition.specs.Expositions.{exposition}
 use Rattle.metric_exposition.specs.TargetFaults.{target_check}
@@ -22,10 +22,10 @@ dialect_of number =
     else (if number == 1 then Some OpenMetrics
     else (if number == 2 then Some OpenMetricsCreated else None))
 
--- the lines of the batch that a reader keeps, none before one
+-- the lines of the batches that a reader keeps, none before one
 abbrev pub page_lines : HostedReader → Dialect → List ℕ
 page_lines own dialect =
-    option_map_or (exposition dialect own.plan.facts.contents own.plan.streams) own.last []
+    flat_map (exposition dialect own.plan.facts.contents own.plan.streams) own.kept
 
 -- the number of a fault of a target
 abbrev pub number_of_target : TargetFault → ℕ

@@ -1,5 +1,5 @@
--- The batch that a reader keeps, point by point.
-use Rattle.std.specs.Prelude.{◌≡◌, ℕ, ℤ, pos, ◌==◌, nat_lt, List, [], Option, Some, None, length}
+-- The last batch that a reader keeps, point by point.
+use Rattle.std.specs.Prelude.{◌≡◌, ℕ, ℤ, pos, ◌-◌, ◌==◌, nat_lt, List, [], Option, Some, None, length}
 use Rattle.std.specs.Prelude.{option_and_then, option_map, replicate, slice_get, unwrap_or}
 use Rattle.std.specs.Prelude.{if◌then◌else◌}
 use Rattle.metric_aggregate.specs.declared.point_value.PointValue.{PointValue}
@@ -45,9 +45,13 @@ batch_out batch = record {
   time = batch.time;
 }
 
+-- the last batch that a reader keeps
+abbrev pub last_kept : HostedReader → Option Batch
+last_kept own = slice_get own.kept (length own.kept - 1)
+
 -- the points of the stream at a place
 abbrev pub points_at : HostedReader → ℕ → Option StreamPoints
-points_at own at = option_and_then (λ (batch : Batch). slice_get batch.streams at) own.last
+points_at own at = option_and_then (λ (batch : Batch). slice_get batch.streams at) (last_kept own)
 
 -- the stream that they are of
 abbrev pub stream_at : HostedReader → ℕ → Option Stream

@@ -2,14 +2,14 @@
 ghost use Rattle.std.specs.Prelude.{◌≡◌, ◌≢◌, option_map};
 ghost use Rattle.std.specs.Option.{option_copied};
 ghost use Rattle.wormweekly_c.specs.Codes.{WhereHeld, reader_in};
-ghost use Rattle.wormweekly_c.specs.Walking.{IsWritten, aggregation_number, batch_out, boundaries_of, delta_number, kind_number, point_at, point_out, points_at, stream_at, stream_out, written_stream, written_value};
+ghost use Rattle.wormweekly_c.specs.Walking.{IsWritten, aggregation_number, batch_out, boundaries_of, delta_number, kind_number, last_kept, point_at, point_out, points_at, stream_at, stream_out, written_stream, written_value};
 
 use crate::codes::{DONE, NOT_OPEN, UNKNOWN};
 use crate::handles::Handle;
 use crate::held::Held;
 use metric_aggregate::PointValue;
 use metric_contents::{Kind, SetKey};
-use metric_history::{Point, StreamPoints};
+use metric_history::{Batch, Point, StreamPoints};
 use metric_hosted::HostedReader;
 use metric_views::{Stream, StreamAggregation, Temporality};
 use std::alloc::Global;
@@ -59,7 +59,7 @@ pub struct PointOut {
 #[unsafe(no_mangle)]
 pub extern "C" fn wormweekly_batch(alloc: Global, reader: &mut Handle, out: &mut BatchOut) -> u32
     ensures answer { WhereHeld (reader_in reader.old) (result ≡ 100) (λ own.
-        IsWritten (option_map batch_out own.last) out.new result) }
+        IsWritten (option_map batch_out (last_kept own)) out.new result) }
     ensures reader { reader.new.value ≡ reader.old.value }
     ensures refused { result ≢ 0 → out.new ≡ out.old }
 {
@@ -132,9 +132,9 @@ pub(crate) fn write<T: Copy + Drop>(found: Option<T>, out: &mut T) -> u32
 }
 
 fn batch_out(own: &HostedReader) -> Option<BatchOut>
-    ensures { result ≡ option_map batch_out own.now.last }
+    ensures { result ≡ option_map batch_out (last_kept own.now) }
 {
-    let batch = own.last.as_ref()?;
+    let batch = last_kept(own)?;
     Some(BatchOut {
         instrument: u64::from(batch.instrument),
         streams: batch.streams.len() as u64,
@@ -146,8 +146,16 @@ fn batch_out(own: &HostedReader) -> Option<BatchOut>
 fn points_at(own: &HostedReader, at: usize) -> Option<&StreamPoints>
     ensures { option_copied result ≡ points_at own.now at }
 {
-    let batch = own.last.as_ref()?;
+    let batch = last_kept(own)?;
     batch.streams.as_slice().get(at)
+}
+
+// The last batch that a reader keeps.
+fn last_kept(own: &HostedReader) -> Option<&Batch>
+    ensures { option_copied result ≡ last_kept own.now }
+{
+    let kept = own.kept.as_slice();
+    kept.get(kept.len().saturating_sub(1))
 }
 
 pub(crate) fn stream_at(own: &HostedReader, at: usize) -> Option<&Stream>

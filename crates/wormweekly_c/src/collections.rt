@@ -1,19 +1,20 @@
 //! Collections.
-ghost use Rattle.std.specs.Prelude.{◌≡◌, ◌≢◌, ◌⊎◌, IfOk, OnErr, OnOk, Some};
+ghost use Rattle.std.specs.Prelude.{◌≡◌, ◌≢◌, ◌⊎◌, false, true, IfOk, Some};
+ghost use Rattle.metric_hosted.specs.Readers.{Collects, RefusesReading};
 ghost use Rattle.wormweekly_c.specs.Codes.{Changes, IsCodeOf, WhereBoth, WhereHeld, instrument_in, instrument_of, reader_in, reader_of};
-ghost use Rattle.wormweekly_c.specs.Collections.{Collects, Refuses, text_of};
+ghost use Rattle.wormweekly_c.specs.Collections.{text_of};
 ghost use Rattle.wormweekly_c.specs.Texts.{AnswersText};
 
 use crate::codes::{MEMORY, NOT_OPEN, code_of};
 use crate::handles::Handle;
 use crate::held::Held;
 use crate::texts::copy_text;
-use metric_contents::Refusal;
-use metric_hosted::{Hosted, HostedReader};
+use metric_hosted::HostedReader;
 use metric_lines::push_batch;
 use std::alloc::{AllocError, Global};
 
-/// Collects an instrument for a reader at a time in nanoseconds (Metrics SDK, collect). The reader keeps the batch.
+/// Collects an instrument for a reader at a time in nanoseconds (Metrics SDK, collect). The reader keeps the batch in
+/// place of those that it kept.
 #[unsafe(no_mangle)]
 pub extern "C" fn wormweekly_collect(
     alloc: Global,
@@ -22,10 +23,47 @@ pub extern "C" fn wormweekly_collect(
     now: u64,
 ) -> u32
     ensures answer { WhereBoth (instrument_in instrument.old) (reader_in reader.old)
-        (result ≡ 100) (λ h own. IsCodeOf (Refuses h own now) result) }
+        (result ≡ 100) (λ h own. IsCodeOf (RefusesReading h own now) result) }
     ensures done { result ≡ 0
         → Changes (instrument_in instrument.old) (instrument_in instrument.new)
-        (reader_in reader.old) (reader_in reader.new) (Collects now) }
+        (reader_in reader.old) (reader_in reader.new) (Collects false now) }
+    ensures instrument { result ≢ 0 → instrument.new.value ≡ instrument.old.value }
+    ensures reader { result ≢ 0 → reader.new.value ≡ reader.old.value }
+{
+    collect_handles(alloc, instrument, reader, now, false)
+}
+
+/// The same; the reader keeps the batch behind those that it keeps, so that they leave together.
+#[unsafe(no_mangle)]
+pub extern "C" fn wormweekly_collect_also(
+    alloc: Global,
+    instrument: &mut Handle,
+    reader: &mut Handle,
+    now: u64,
+) -> u32
+    ensures answer { WhereBoth (instrument_in instrument.old) (reader_in reader.old)
+        (result ≡ 100) (λ h own. IsCodeOf (RefusesReading h own now) result) }
+    ensures done { result ≡ 0
+        → Changes (instrument_in instrument.old) (instrument_in instrument.new)
+        (reader_in reader.old) (reader_in reader.new) (Collects true now) }
+    ensures instrument { result ≢ 0 → instrument.new.value ≡ instrument.old.value }
+    ensures reader { result ≢ 0 → reader.new.value ≡ reader.old.value }
+{
+    collect_handles(alloc, instrument, reader, now, true)
+}
+
+fn collect_handles(
+    alloc: Global,
+    instrument: &mut Handle,
+    reader: &mut Handle,
+    now: u64,
+    keeps: bool,
+) -> u32
+    ensures answer { WhereBoth (instrument_in instrument.old) (reader_in reader.old)
+        (result ≡ 100) (λ h own. IsCodeOf (RefusesReading h own now) result) }
+    ensures done { result ≡ 0
+        → Changes (instrument_in instrument.old) (instrument_in instrument.new)
+        (reader_in reader.old) (reader_in reader.new) (Collects keeps now) }
     ensures instrument { result ≢ 0 → instrument.new.value ≡ instrument.old.value }
     ensures reader { result ≢ 0 → reader.new.value ≡ reader.old.value }
 {
@@ -36,49 +74,32 @@ pub extern "C" fn wormweekly_collect(
         instrument.put(alloc, Some(held));
         return NOT_OPEN;
     };
-    let code = collect_held(alloc, &mut held, &mut own, now);
+    let code = collect_held(alloc, &mut held, &mut own, now, keeps);
     reader.put(alloc, Some(own));
     instrument.put(alloc, Some(held));
     code
 }
 
-fn collect_held(alloc: Global, held: &mut Held, own: &mut Held, now: u64) -> u32
+fn collect_held(alloc: Global, held: &mut Held, own: &mut Held, now: u64, keeps: bool) -> u32
     ensures answer { WhereBoth (instrument_of (Some held.old)) (reader_of (Some own.old))
-        (result ≡ 100) (λ h own. IsCodeOf (Refuses h own now) result) }
+        (result ≡ 100) (λ h own. IsCodeOf (RefusesReading h own now) result) }
     ensures done { result ≡ 0
         → Changes (instrument_of (Some held.old)) (instrument_of (Some held.new))
-        (reader_of (Some own.old)) (reader_of (Some own.new)) (Collects now) }
+        (reader_of (Some own.old)) (reader_of (Some own.new)) (Collects keeps now) }
     ensures instrument { result ≢ 0 → held.new ≡ held.old }
     ensures reader { result ≢ 0 → own.new ≡ own.old }
 {
     match (held, own) {
         (Held::Instrument(held), Held::Reader(own)) => {
-            let answer = collect_kept(alloc, held, own, now);
+            let answer = own.collect(alloc, held, now, keeps);
             code_of(&answer)
         }
         _ => NOT_OPEN,
     }
 }
 
-fn collect_kept(
-    alloc: Global,
-    held: &mut Hosted,
-    own: &mut HostedReader,
-    now: u64,
-) -> Result<(), Refusal>
-    ensures answer { Refuses held.old own.old now result }
-    ensures done { OnOk result (Collects now held.old held.new own.old own.new) }
-    ensures instrument { OnErr result (held.new ≡ held.old) }
-    ensures reader { OnErr result (own.new ≡ own.old) }
-{
-    let HostedReader { plan, seat, last } = own;
-    let batch = held.collect(alloc, plan.get(), seat, now)?;
-    *last = Some(batch);
-    Ok(())
-}
-
-/// Writes the text of the batch that a reader keeps, if there is room for all of it, and its length. It is empty before
-/// a batch. The reader keeps the batch, so the text can be asked for again with more room.
+/// Writes the text of the batches that a reader keeps, if there is room for all of it, and its length. It is empty
+/// before a batch. The reader keeps them, so the text can be asked for again with more room.
 #[unsafe(no_mangle)]
 pub extern "C" fn wormweekly_text(
     alloc: Global,
@@ -118,13 +139,14 @@ fn write_batch_text(
     }
 }
 
-// The text of the batch that a reader keeps.
+// The text of the batches that a reader keeps.
+#[tactic(auto, using(metric_text::specs::ListLaws::steps))]
 fn text_of(alloc: Global, own: &HostedReader) -> Result<Vec<u8>, AllocError>
     ensures { IfOk result (λ text. text.items ≡ text_of own.now) }
 {
     let mut text = Vec::new(alloc);
-    if let Some(batch) = &own.last {
-        let plan = own.plan.get();
+    let plan = own.plan.get();
+    for batch in own.kept.as_slice() {
         push_batch(
             &mut text,
             plan.catalogue(),

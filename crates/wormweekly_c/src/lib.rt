@@ -65,7 +65,7 @@ pub use batches::{
 };
 pub use budgets::{wormweekly_ask, wormweekly_budget, wormweekly_spare};
 pub use certified::wormweekly_open_certified_run;
-pub use collections::{wormweekly_collect, wormweekly_text};
+pub use collections::{wormweekly_collect, wormweekly_collect_also, wormweekly_text};
 pub use ending::{
     may_be_sent, wormweekly_close, wormweekly_free_instrument, wormweekly_free_reader,
     wormweekly_free_recorder,

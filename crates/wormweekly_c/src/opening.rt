@@ -15,7 +15,9 @@ use crate::held::Held;
 use crate::no_plan::{NoPlan, tell};
 use crate::telling::fault_message;
 use metric_base::{Copied, Shared};
-use metric_hosted::{Hosted, HostedReader, HostedRecorder, ReaderSeat, RecorderSeat, RunId};
+use metric_hosted::{
+    Batches, Hosted, HostedReader, HostedRecorder, ReaderSeat, RecorderSeat, RunId,
+};
 use metric_plan::Plan;
 use metric_setup::certified_plan;
 use std::alloc::{AllocError, Global};
@@ -297,8 +299,8 @@ fn new_readers(alloc: Global, plan: &Shared<Plan>, run: RunId) -> Result<Vec<Han
     for number in 0..count {
         let seat = ReaderSeat::new(alloc, run, number, instruments)?;
         let plan = plan.copy(alloc)?;
-        let last = None;
-        let own = HostedReader { plan, seat, last };
+        let kept = Batches::new(alloc);
+        let own = HostedReader { plan, seat, kept };
         let held = Box::new(alloc, Held::Reader(own))?;
         all.push(Handle::of(held))?;
     }

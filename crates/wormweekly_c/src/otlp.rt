@@ -17,10 +17,10 @@ use metric_otlp::{push_line, push_request};
 use metric_resource::Resource;
 use std::alloc::{AllocError, Global};
 
-/// Writes the batch that a reader keeps in the OpenTelemetry protocol, with the attributes of what produces the
+/// Writes the batches that a reader keeps in the OpenTelemetry protocol, with the attributes of what produces the
 /// metrics, if there is room for all of it, and its length: as a message `ExportMetricsServiceRequest` (`json` 0), or
-/// as a line of JSON (1). It is empty before a batch, and where the batch has no points. Requests one after the other
-/// are one request.
+/// as a line of JSON (1). It is empty before a batch, and where no batch has points. Requests one after the other are
+/// one request.
 #[unsafe(no_mangle)]
 pub extern "C" fn wormweekly_otlp(
     alloc: Global,
@@ -92,22 +92,21 @@ fn write_encoded(
     }
 }
 
-// The request of the batch that a reader keeps.
+// The request of the batches that a reader keeps.
 fn request_of(alloc: Global, own: &HostedReader, resource: &Resource) -> Result<Vec<u8>, AllocError>
     ensures { IfOk result (λ bytes. bytes.items ≡ request_of own.now resource.now) }
 {
     let mut out = Vec::new(alloc);
-    if let Some(batch) = &own.last {
-        let plan = own.plan.get();
-        push_request(
-            alloc,
-            &mut out,
-            resource,
-            plan.catalogue(),
-            plan.streams(),
-            batch,
-        )?;
-    }
+    let plan = own.plan.get();
+    let kept = own.kept.as_slice();
+    push_request(
+        alloc,
+        &mut out,
+        resource,
+        plan.catalogue(),
+        plan.streams(),
+        kept,
+    )?;
     Ok(out)
 }
 
@@ -116,16 +115,15 @@ fn line_of(alloc: Global, own: &HostedReader, resource: &Resource) -> Result<Vec
     ensures { IfOk result (λ bytes. bytes.items ≡ line_of own.now resource.now) }
 {
     let mut out = Vec::new(alloc);
-    if let Some(batch) = &own.last {
-        let plan = own.plan.get();
-        push_line(
-            alloc,
-            &mut out,
-            resource,
-            plan.catalogue(),
-            plan.streams(),
-            batch,
-        )?;
-    }
+    let plan = own.plan.get();
+    let kept = own.kept.as_slice();
+    push_line(
+        alloc,
+        &mut out,
+        resource,
+        plan.catalogue(),
+        plan.streams(),
+        kept,
+    )?;
     Ok(out)
 }

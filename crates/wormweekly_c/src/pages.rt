@@ -20,7 +20,7 @@ use metric_hosted::HostedReader;
 use metric_resource::Resource;
 use std::alloc::{AllocError, Global};
 
-/// Writes the lines of the batch that a reader keeps in a format of a number, if there is room for all of them, and
+/// Writes the lines of the batches that a reader keeps in a format of a number, if there is room for all of them, and
 /// their length: the text format 0.0.4 (0), OpenMetrics 1.0 (1), or that with lines `_created` (2). There are none
 /// before a batch. A page is the lines of a resource, those of the batches of all instruments, and in OpenMetrics the
 /// line `# EOF`.
@@ -81,13 +81,14 @@ fn dialect_of(number: u32) -> Option<Dialect>
     }
 }
 
-// The lines of the batch that a reader keeps.
+// The lines of the batches that a reader keeps.
+#[tactic(auto, using(metric_text::specs::ListLaws::steps))]
 fn page_lines(alloc: Global, own: &HostedReader, dialect: Dialect) -> Result<Vec<u8>, AllocError>
     ensures { IfOk result (λ text. text.items ≡ page_lines own.now dialect) }
 {
     let mut out = Vec::new(alloc);
-    if let Some(batch) = &own.last {
-        let plan = own.plan.get();
+    let plan = own.plan.get();
+    for batch in own.kept.as_slice() {
         push_exposition(
             alloc,
             &mut out,

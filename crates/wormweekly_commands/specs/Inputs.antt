@@ -1,5 +1,5 @@
 -- The parts that the files of a replay are, and what the replay of parts is in each form.
-use Rattle.std.specs.Prelude.{ℕ, Bool, List, Option, Some, Result}
+use Rattle.std.specs.Prelude.{ℕ, Bool, List, [], ◌∷◌, Option, Some, Result}
 use Rattle.metric_contents.specs.declared.attributes.OwnedAttr.{OwnedAttr}
 use Rattle.metric_history.specs.declared.batch.Batch.{Batch}
 use Rattle.metric_parts.specs.Texts.{ScriptLines}
@@ -38,10 +38,10 @@ IsEncodedReplay encode trial parts sink result =
 
 -- a batch of a plan as a line of OTLP/JSON, and as an OTLP request
 abbrev pub otlp_line : List OwnedAttr → PlanValue → Batch → List ℕ
-otlp_line resource plan batch = line resource plan.facts.contents plan.streams batch
+otlp_line resource plan batch = line resource plan.facts.contents plan.streams (batch ∷ [])
 
 abbrev pub otlp_request : List OwnedAttr → PlanValue → Batch → List ℕ
-otlp_request resource plan batch = request resource plan.facts.contents plan.streams batch
+otlp_request resource plan batch = request resource plan.facts.contents plan.streams (batch ∷ [])
 
 -- The replay in a form other than a page, where batches in OTLP have the attributes of a resource.
 -- Only replies are audited.

@@ -16,6 +16,7 @@ use metric_parts::{Parts, Script};
 use metric_plan::Plan;
 use metric_resource::Resource;
 use std::alloc::{AllocError, Global};
+use std::slice::from_ref;
 
 // How batches are written in OTLP, with the attributes of a resource.
 #[derive(Clone, Copy)]
@@ -41,10 +42,11 @@ impl Encoding for Otlp<'_> {
         batch: &Batch,
     ) -> Result<(), AllocError> {
         let (catalogue, streams) = (plan.catalogue(), plan.streams());
+        let batches = from_ref(batch);
         match self {
-            Otlp::Line(resource) => push_line(alloc, out, resource, catalogue, streams, batch),
+            Otlp::Line(resource) => push_line(alloc, out, resource, catalogue, streams, batches),
             Otlp::Request(resource) => {
-                push_request(alloc, out, resource, catalogue, streams, batch)
+                push_request(alloc, out, resource, catalogue, streams, batches)
             }
         }
     }

@@ -253,13 +253,9 @@ func (own *Exporter) rollOver() error {
 
 func (own *Exporter) collect(metrics *wormweekly.Metrics, now time.Time) error {
 	own.due = time.Now().Add(own.settings.Interval)
-	var body []byte
-	for _, instrument := range metrics.Instruments {
-		part, err := metrics.Readers[own.reader].OTLP(instrument, now, own.resource...)
-		if err != nil {
-			return err
-		}
-		body = append(body, part...)
+	body, err := metrics.OTLP(metrics.Readers[own.reader], now, own.resource...)
+	if err != nil {
+		return err
 	}
 	if len(body) > 0 {
 		own.keep(own.packed(body))

@@ -375,10 +375,11 @@ uint32_t handles_close(Handles *own, size_t instrument) {
     return answer;
 }
 
-uint32_t handles_collect(Handles *of, size_t instrument, wormweekly_reader *reader, uint64_t now) {
+uint32_t handles_collect(Handles *of, size_t instrument, wormweekly_reader *reader, uint64_t now, int keeps) {
+    wormweekly_instrument *held = &of->lists.instruments[instrument];
     uint32_t answer;
     pthread_mutex_lock(&of->instrument_locks[instrument]);
-    answer = wormweekly_collect(&of->lists.instruments[instrument], reader, now);
+    answer = keeps ? wormweekly_collect_also(held, reader, now) : wormweekly_collect(held, reader, now);
     unlock(&of->instrument_locks[instrument]);
     return answer;
 }

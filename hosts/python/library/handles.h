@@ -125,6 +125,6 @@ wormweekly_reader *handles_lend_reader(Handles *own, size_t reader);
 void handles_take_reader(Handles *own, size_t reader);
 
 /* Collects with a reader that was lent. It is called without Python's lock. */
-uint32_t handles_collect(Handles *of, size_t instrument, wormweekly_reader *reader, uint64_t now);
+uint32_t handles_collect(Handles *of, size_t instrument, wormweekly_reader *reader, uint64_t now, int keeps);
 
 #endif

@@ -42,12 +42,14 @@ typedef struct {
     Beside *beside; /* of each instrument */
 } Run;
 
-/* An instrument, a recorder or a reader of a run. The owner is the thread of a recorder, 0 before there is one. */
+/* An instrument, a recorder or a reader of a run. The owner is the thread of a recorder, 0 before there is one. A reader
+ * that is `unsent` keeps batches of all instruments that were not told. */
 typedef struct {
     PyObject_HEAD
     Run *run;
     size_t number;
     unsigned long owner;
+    int unsent;
 } Seat;
 
 typedef struct {

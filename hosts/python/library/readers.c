@@ -16,29 +16,49 @@ static wormweekly_reader *lend(Seat *self) {
 static uint32_t collect_on(Seat *on, wormweekly_reader *reader, uint64_t now) {
     uint32_t answer;
     Py_BEGIN_ALLOW_THREADS
-    answer = handles_collect(&on->run->handles, on->number, reader, now);
+    answer = handles_collect(&on->run->handles, on->number, reader, now, 0);
     Py_END_ALLOW_THREADS
     return answer;
 }
 
-/* Collects an instrument at a time, the first two arguments, and answers what `told` makes of the batch. */
+/* Collects all instruments. Where one is refused, those before it are kept, and come with the next ones. */
+static uint32_t collect_all(Seat *self, wormweekly_reader *reader, uint64_t now) {
+    Handles *of = &self->run->handles;
+    uint32_t answer = WORMWEEKLY_DONE;
+    int unsent = self->unsent;
+    size_t i;
+    Py_BEGIN_ALLOW_THREADS
+    for (i = 0; i < of->lists.counts.instruments && answer == WORMWEEKLY_DONE; i++) {
+        answer = handles_collect(of, i, reader, now, unsent);
+        unsent = unsent || answer == WORMWEEKLY_DONE;
+    }
+    Py_END_ALLOW_THREADS
+    self->unsent = unsent;
+    return answer;
+}
+
+/* Collects an instrument, or all (None), at a time, the first two arguments, and answers what `told` makes of it. */
 static PyObject *collect_as(Seat *self, PyObject *const *args, PyObject *(*told)(Run *, wormweekly_reader *, void *),
                             void *beside) {
     Run *run = self->run;
-    Seat *on = read_seat(run, args[0], run->state->instrument, "an instrument");
+    int is_all = args[0] == Py_None;
+    Seat *on = is_all ? NULL : read_seat(run, args[0], run->state->instrument, "an instrument");
     uint64_t now;
     wormweekly_reader *reader;
     uint32_t answer;
     PyObject *made;
-    if (on == NULL || !read_unsigned(run, args[1], &now, WRONG_CLOCK)) {
+    if ((on == NULL && !is_all) || !read_unsigned(run, args[1], &now, WRONG_CLOCK)) {
         return NULL;
     }
     reader = lend(self);
     if (reader == NULL) {
         return NULL;
     }
-    answer = collect_on(on, reader, now);
+    answer = is_all ? collect_all(self, reader, now) : collect_on(on, reader, now);
     made = answer == WORMWEEKLY_DONE ? told(run, reader, beside) : refuse(run, answer);
+    if (made != NULL) {
+        self->unsent = 0;
+    }
     handles_take_reader(&run->handles, self->number);
     return made;
 }
@@ -61,7 +81,7 @@ static PyObject *collect_text(Seat *self, PyObject *const *args, Py_ssize_t coun
     return has_count(self->run, count, 2) ? collect_as(self, args, tell_text, NULL) : NULL;
 }
 
-/* A batch in OTLP, of a resource: a reader with what is told beside. */
+/* Batches in OTLP, of a resource: a reader with what is told beside. */
 typedef struct {
     wormweekly_reader *reader;
     const Attributes *resource;
@@ -103,7 +123,7 @@ static int takes_resource(Seat *self, const Attributes *resource) {
     return 1;
 }
 
-/* otlp(instrument, now, attributes of the resource, whether as a line of JSON) */
+/* otlp(instrument or None for all, now, attributes of the resource, whether as a line of JSON) */
 static PyObject *collect_otlp(Seat *self, PyObject *const *args, Py_ssize_t count) {
     Given given;
     PyObject *made = NULL;

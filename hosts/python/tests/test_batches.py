@@ -16,6 +16,7 @@ from wormweekly import (
     Last,
     Metrics,
     Point,
+    ResourceRefusal,
     Stream,
     Sum,
     Total,
@@ -103,6 +104,20 @@ class Batches(unittest.TestCase):
         message = self.all.otlp(requests, shop, 30)
         self.assertIn(b"requests", message)
         self.assertIn(b"service.name", message)
+
+    def test_one_message(self) -> None:
+        metrics, shop = self.metrics, {"service.name": "shop"}
+        self.assertEqual(metrics.otlp(self.all, shop, 10), b"")
+        self.second.record(metrics.instrument("requests"), HOME, 42)
+        self.second.record(metrics.instrument("temperature"), {}, -7)
+        (resource,) = json.loads(metrics.otlp(self.all, shop, 20, json=True))["resourceMetrics"]
+        (scope,) = resource["scopeMetrics"]
+        self.assertEqual([one["name"] for one in scope["metrics"]], ["requests", "temperature"])
+        message = metrics.otlp(self.new, shop, 20)
+        self.assertEqual([message.count(it) for it in (b"service.name", b"requests", b"temperature")], [1, 1, 1])
+        self.assertEqual(metrics.otlp(self.new, shop, 30).count(b"requests"), 0)
+        with self.assertRaises(ResourceRefusal):
+            metrics.otlp(self.all, {"": "shop"}, 40)
 
     def test_pages(self) -> None:
         self.all.expose()

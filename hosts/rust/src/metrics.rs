@@ -104,12 +104,25 @@ impl Metrics {
     ///
     /// The first [`Refusal`].
     pub fn page(&self, reader: &mut Reader, now: u64, dialect: Dialect) -> Result<String, Refusal> {
-        let mut page = String::new();
-        for instrument in &self.instruments {
-            reader.collect_kept(instrument, now)?;
-            page += &reader.prometheus(dialect)?;
+        self.collect_all(reader, now)?;
+        Ok(reader.prometheus(dialect)? + dialect.end())
+    }
+
+    /// Collects all instruments at a time in nanoseconds, in order. The reader keeps the batches in place of those that
+    /// it kept: [`Reader::otlp`] is one message of all of them.
+    ///
+    /// # Errors
+    ///
+    /// The first [`Refusal`]; the batches before it are kept.
+    pub fn collect_all(&self, reader: &mut Reader, now: u64) -> Result<(), Refusal> {
+        let Some((first, others)) = self.instruments.split_first() else {
+            return Ok(());
+        };
+        reader.collect_kept(first, now)?;
+        for instrument in others {
+            reader.collect_also(instrument, now)?;
         }
-        Ok(page + dialect.end())
+        Ok(())
     }
 
     /// How often each instrument may be recorded, in order: what the catalogue declares, and the most that is safe.

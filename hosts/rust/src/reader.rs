@@ -73,6 +73,20 @@ impl Reader {
         }
     }
 
+    /// The same; the batch is kept behind those that the reader keeps.
+    ///
+    /// # Errors
+    ///
+    /// A [`Refusal`]; the batches before are kept then.
+    pub fn collect_also(&mut self, instrument: &Instrument, now: u64) -> Result<(), Refusal> {
+        let mut held = instrument.lock();
+        // SAFETY: as in `collect_kept`.
+        match unsafe { raw::wormweekly_collect_also(&mut held.handle, &mut self.handle, now) } {
+            0 => Ok(()),
+            code => Err(Refusal::of(code)),
+        }
+    }
+
     /// The batch that was collected last, point by point, none before one.
     ///
     /// # Errors
@@ -82,7 +96,7 @@ impl Reader {
         batch_of(&mut self.handle).map_err(Refusal::of)
     }
 
-    /// The text of the batch that was collected last, empty before one.
+    /// The text of the batches that the reader keeps, empty before one.
     ///
     /// # Errors
     ///
@@ -96,9 +110,9 @@ impl Reader {
         text.map_err(Refusal::of)
     }
 
-    /// The batch that was collected last as a message `ExportMetricsServiceRequest` of OTLP, which a collector takes at
-    /// `/v1/metrics` as `application/x-protobuf`. It is empty before a batch, and where the batch has no points. Requests one
-    /// after the other are one request. The batch stays, so what a collector did not take can be asked for again.
+    /// The batches that the reader keeps as one message `ExportMetricsServiceRequest` of OTLP, which a collector takes at
+    /// `/v1/metrics` as `application/x-protobuf`. It is empty where there is no point. Requests one after the other are
+    /// one request. The batches stay, so what a collector did not take can be asked for again.
     ///
     /// # Errors
     ///
@@ -147,7 +161,7 @@ impl Reader {
         }
     }
 
-    /// The lines of the batch that was collected last in a page for Prometheus, none before one.
+    /// The lines of the batches that the reader keeps in a page for Prometheus, none before one.
     ///
     /// # Errors
     ///

@@ -561,6 +561,10 @@ fn batches_leave_in_the_protocol_of_opentelemetry() -> Result<(), Box<dyn std::e
     assert_eq!((request[0], request[1] as usize), (10, request.len() - 2));
     assert!(request.ends_with(&[16, 2]), "{request:?}");
     assert_eq!(console.otlp(&shop)?, request);
+    metrics.collect_all(console, 3)?;
+    let whole = console.otlp(&shop)?;
+    assert_eq!((whole[0], console.otlp(&shop)?), (10, whole.clone()));
+    assert_eq!(console.otlp_line(&shop)?.matches("\"resource\"").count(), 1);
     let many: Vec<String> = (0..65).map(|number| number.to_string()).collect();
     let many: Vec<_> = many.iter().map(|key| (key.as_str(), true.into())).collect();
     let faults: [(&[(&str, Value<'_>)], ResourceFault); 3] = [

@@ -334,6 +334,14 @@ class Metrics:
         page += [] if dialect is Dialect.TEXT else [b"# EOF\n"]
         return b"".join(page)
 
+    def otlp(
+        self, reader: Reader, resource: Attributes, now: int | None = None, *, json: bool = False
+    ) -> bytes:
+        """All instruments, collected by a reader, as one message of OTLP, or one line of JSON, which is empty where
+        there are no points. Where an instrument is refused, those before it come with the next message. Keep one that
+        was not taken, as of `Reader.otlp`."""
+        return reader._collect_otlp(None, time.time_ns() if now is None else now, resource, json)
+
     def part_left(self) -> float:
         """How much is left of all that may be recorded on an instrument, budgets and spare: the least part that any
         has, from 1.0 to 0.0. Roll over in time: past it, recordings are refused."""

@@ -18,9 +18,9 @@ loop-number-preserved c =
     let so_far = map (new_reader_of plan run) (range_with_len 0 number) in
     let seat : c.in_ok-seat.seat ≡ new_collector run (length plan.facts.instruments) number = search rules in
     let copied : c.in_ok-plan.plan ≡ plan = search rules in
-    let made : c.in_ok-held.held.value ≡ Reader (record { plan = c.in_ok-plan.plan; seat = c.in_ok-seat.seat; last = None }) = search rules in
+    let made : c.in_ok-held.held.value ≡ Reader (record { plan = c.in_ok-plan.plan; seat = c.in_ok-seat.seat; kept = [] }) = search rules in
     let value : c.of.result.value ≡ new_reader_of plan run number =
-    c.of.ensures ∙ ap (λ (own : Held). Some own) (made ∙ (λ i. Reader (record { plan = copied i; seat = seat i; last = None }))) in
+    c.of.ensures ∙ ap (λ (own : Held). Some own) (made ∙ (λ i. Reader (record { plan = copied i; seat = seat i; kept = [] }))) in
     ap held_in c.in_ok-push.ensures.items
     ∙ map-append (λ (handle : Handle). handle.value) c.loop-number.all.items (c.of.result ∷ [])
     ∙ ap (λ (all : List (Option Held)). all ++ c.of.result.value ∷ []) c.loop-number.invariant

@@ -231,7 +231,7 @@ class Exporter:
     def _collect(self, metrics: Metrics, at: int) -> None:
         self._due = time.monotonic() + self.settings.interval
         reader = metrics.readers[self._reader.number]
-        body = b"".join(reader.otlp(instrument, self._resource, at) for instrument in metrics.instruments)
+        body = metrics.otlp(reader, self._resource, at)
         if body:
             self._waiting.append(gzip.compress(body, 6) if self.settings.is_compressed else body)
             self._size += len(self._waiting[-1])

@@ -1,6 +1,0 @@
--- It calls itself with fewer streams.
-use Rattle.std.proofs.Common.{length}
-use Rattle.metric_otlp.proofs.metric.+push_metrics.Given as goal
-
-abbrev pub decreases-push_metrics : goal.decreases-push_metrics
-decreases-push_metrics l = length l.streams.now
