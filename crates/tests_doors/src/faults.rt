@@ -3,7 +3,7 @@ use crate::page::Page;
 use metric_sdk::{
     AllFault, CheckFault, ClaimFault, ClaimPlace, ExportFault, ExposureFault, FinishFault,
     ListFault, OutletFault, Refusal, RollFault, ServiceFault, SetsFault, SetupFault, TargetFault,
-    TellFault, TimedFault, TimerFault, UnendedFault,
+    TellFault, TimedFault, TimerFault, Uncollected, UnendedFault,
 };
 use std::fmt::Display;
 use std::process::Abort;
@@ -113,6 +113,7 @@ the attributes are bound in another plan
 the instrument's unit is none of ns, us, ms, s
 the clock could not be read
 7 ValueRange
+, all instruments: Memory
 ";
 
 fn say_each<R: Abort, T: Display + Copy + Drop>(page: &mut Page<'_, R>, faults: &[T]) {
@@ -131,5 +132,6 @@ fn faults_of_services_are_printed(rt: HostRuntime) {
     say_each(&mut page, LISTS);
     say_each(&mut page, TIMERS);
     say_each(&mut page, TIMED);
+    page.say(Uncollected::All);
     page.assert(SAID);
 }

@@ -16,7 +16,7 @@ use std::thread::{self, Threads};
 use std::time::Clock;
 
 // Two counters of two recorders, who may both record on each: on the first one by its spare.
-const CATALOGUE: &str = "format = 1
+const CATALOGUE: &str = "format = 2
 [[meter]]
 name = 'm'
 instrument = [
