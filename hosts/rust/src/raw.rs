@@ -205,11 +205,7 @@ unsafe extern "C" {
         made: &mut usize,
     ) -> u32;
     pub fn wormweekly_collect(instrument: &mut Handle, reader: &mut Handle, now: u64) -> u32;
-    pub fn wormweekly_collect_also(
-        instrument: &mut Handle,
-        reader: &mut Handle,
-        now: u64,
-    ) -> u32;
+    pub fn wormweekly_collect_also(instrument: &mut Handle, reader: &mut Handle, now: u64) -> u32;
     pub fn wormweekly_text(
         reader: &mut Handle,
         out: *mut u8,
