@@ -350,48 +350,44 @@ const LOST: &str = "not ended: 1 RecorderMissing: r
 [(10, 1), (20, 1)]
 ";
 
-// A service of which a seat was lost goes on in another run, with the same outlets.
-#[test]
-fn a_service_goes_on_without_a_seat(rt: HostRuntime) {
-    let (alloc, mut page) = (rt.alloc(), Page::new(&rt, rt.alloc()));
-    let mut exporter = failing_at(alloc, &[]);
-    let (service, _lost) = told(&page, hit_once(&rt, alloc, 1), "d", &mut exporter, 1);
-    let Err(left) = service.roll_over(&rt, alloc, Vec::new(alloc), 10) else {
-        panic!(rt; "rolled over");
+// Rolls a service over without a recorder's seat, and goes on in another run, with the same outlets.
+fn go_on_without_a_seat<R: Abort + Wait>(page: &mut Page<'_, R>, exporter: &mut Failing) {
+    let service = hit_once(page.rt, page.alloc, 1);
+    let (service, _lost) = told(page, service, "d", &mut *exporter, 1);
+    let left = match service.roll_over(page.rt, page.alloc, Vec::new(page.alloc), 10) {
+        Ok(_next) => return,
+        Err(left) => left,
     };
     page.say(&left);
-    let unended = left.done.err().expect(&rt, "ended");
+    let Left {
+        done,
+        ends: _ends,
+        is_counted: _,
+        are_seated: _,
+    } = left;
+    let unended = match done {
+        Ok(_ended) => return,
+        Err(unended) => unended,
+    };
     let (provider, mut outlets, runs) = unended.service.into_parts();
-    match provider.finish_partly(&rt, alloc, Vec::new(alloc)) {
+    match provider.finish_partly(page.rt, page.alloc, Vec::new(page.alloc)) {
         Ok(partly) => page.tell(partly.missing.as_slice()),
-        Err((_, _, fault)) => page.say(fault),
+        Err((_provider, _recorders, fault)) => page.say(fault),
     }
-    let (provider, recorders, mut readers) = hit_once(&rt, alloc, 2).into_seats();
-    assert!(rt; outlets.begin_each(&mut readers));
+    let (provider, recorders, mut readers) = hit_once(page.rt, page.alloc, 2).into_seats();
+    assert!(page.rt; outlets.begin_each(&mut readers));
     let service = Whole::from_parts(provider, outlets, runs);
-    assert!(rt; end(&mut page, service, recorders, 20).is_some());
-    page.tell(exporter.taken.as_slice());
-    page.assert(LOST);
+    assert!(page.rt; end(page, service, recorders, 20).is_some());
 }
 
-// Each cause that is left is told, also those that only a seat which is not at rest can give.
+// A service of which a seat was lost goes on.
 #[test]
-fn each_cause_is_told(rt: HostRuntime) {
+fn a_service_goes_on_without_a_seat(rt: HostRuntime) {
     let mut page = Page::new(&rt, rt.alloc());
-    let mut exporter = KeepingExporter::new(rt.alloc());
-    let service = hit_once(&rt, rt.alloc(), 1);
-    let (service, _recorders) = told(&page, service, "d", &mut exporter, 1);
-    match service.end(&rt, rt.alloc(), Vec::new(rt.alloc()), 10) {
-        Ok(_) => page.push("ended\n"),
-        Err(mut left) => {
-            left.is_counted = false;
-            left.are_seated = false;
-            page.say(&left);
-        }
-    }
-    page.assert(
-        "not ended: 1 RecorderMissing: r; recordings after the last collection; a reader has no seat in the next run\n",
-    );
+    let mut exporter = failing_at(rt.alloc(), &[]);
+    go_on_without_a_seat(&mut page, &mut exporter);
+    page.tell(exporter.taken.as_slice());
+    page.assert(LOST);
 }
 
 // Each with its start and its time: what the next run collects at 20, and what was exported.
