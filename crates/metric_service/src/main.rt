@@ -1,8 +1,7 @@
 //! A service to copy from: workers record in threads of their own, while two readers export. What the one named `all`
-//! collects is added to a file of lines that the OpenTelemetry Collector reads, and that is opened anew after a write
-//! that failed; what is `new` is written as lines of JSON, by an exporter of the service's own (`json_lines`).
-//! `metric_service CATALOGUE CONFIG FILE` starts only where the two texts are safe together, and fails where the totals
-//! at its end are not what the workers counted.
+//! collects is added to a file of lines that the OpenTelemetry Collector reads; what is `new` is written as lines of
+//! JSON, by an exporter of the service's own (`json_lines`). `metric_service CATALOGUE CONFIG FILE` starts only where
+//! the two texts are safe together, and fails where the totals at its end are not what the workers counted.
 #![tactic(auto)]
 
 mod json;
@@ -12,14 +11,13 @@ use anyhow::{Context, Result, bail, ensure};
 use json::Times;
 use json_lines::JsonLines;
 use metric_sdk::{
-    AddedFile, AnySeat, Attr, BoundCounter, Counted, Counter, Gauge, Histogram, Marked,
-    MeterProvider, NamedText, NoGate, OtlpLines, Plan, Recorder, ReopeningExporter, Replaced,
-    Resource, Runs, Service, ServiceBuilder, StdSink, StopFlag, Totals, UpDownCounter, ValueRef,
-    Work, counter, diagnosed, gauge, histogram, live, now, open_with_lanes, up_down_counter,
+    AnySeat, Attr, BoundCounter, Counted, Counter, Gauge, Histogram, Marked, MeterProvider,
+    NamedText, NoGate, OtlpLines, Plan, Recorder, Replaced, Resource, Runs, Service,
+    ServiceBuilder, StdSink, StopFlag, TextExporter, Totals, UpDownCounter, ValueRef, Work,
+    counter, diagnosed, gauge, histogram, live, now, open_with_lanes, up_down_counter,
 };
 use std::alloc::Global;
 use std::fs::{self, File};
-use std::rt::Files;
 use std::sync::Wait;
 use std::sync::atomic::{AtomicU64, Ordering};
 use std::thread::Threads;
@@ -109,6 +107,7 @@ fn main(rt: HostRuntime) -> Result<()> {
     let texts = [named(catalogue, &first), named(config, &second)];
     let (provider, recorders, readers) = diagnosed(alloc, texts, opened)?;
     let service = Service::builder(provider, readers, runs);
+    let file = File::options().append(true).create(true).open(&rt, file)?;
     run(&rt, service, recorders, file)
 }
 
@@ -117,11 +116,11 @@ fn named<'a>(name: &'a str, text: &'a str) -> NamedText<'a> {
 }
 
 // Tells each reader where its batches go, lets the workers work, and ends with what each instrument came to.
-fn run<R: Threads + Wait + Clock + Print + Files<File = File> + Sync + AllocGlobal>(
+fn run<R: Threads + Wait + Clock + Print + Sync + AllocGlobal>(
     rt: &R,
     service: ServiceBuilder<(), Marked, NoGate>,
     recorders: Vec<Recorder>,
-    path: &str,
+    file: File,
 ) -> Result<()> {
     let alloc = rt.alloc();
     let plan = service.plan();
@@ -132,7 +131,7 @@ fn run<R: Threads + Wait + Clock + Print + Files<File = File> + Sync + AllocGlob
     let all = service.reader("all").context("no reader \"all\"")?;
     let resource = Resource::new(alloc, &[Attr::text("service.name", "shop")])?;
     let lines = OtlpLines::new(service.plan(), all, resource)?;
-    let lines = ReopeningExporter::of(lines, AddedFile { rt, path });
+    let lines = TextExporter::of(lines, StdSink::new(file));
     let service = service.tell(alloc, "all", lines, 10_000)?;
     // What takes the service's own lines stamps each one.
     let own = JsonLines::new(StdSink::new(io::writer(rt)), Times::LeftOut);
