@@ -12,20 +12,20 @@ use json::Times;
 use json_lines::JsonLines;
 use metric_sdk::{
     AnySeat, Attr, BoundCounter, Counted, Counter, Gauge, Histogram, Marked, MeterProvider,
-    NamedText, NoGate, OtlpLines, Plan, Recorder, Replaced, Resource, Runs, Service,
-    ServiceBuilder, StdSink, StopFlag, TextExporter, Totals, UpDownCounter, ValueRef, Work,
-    counter, diagnosed, gauge, histogram, live, now, open_with_lanes, up_down_counter,
+    NamedText, NoGate, OtlpLines, Plan, Recorder, Resource, Runs, Service, ServiceBuilder,
+    SetupFault, StdSink, StopFlag, TextExporter, Totals, UpDownCounter, Work, counter,
+    diagnose_catalogue, diagnose_config, gauge, histogram, live, now, open_with_lanes,
+    up_down_counter,
 };
 use std::alloc::Global;
 use std::fs::{self, File};
 use std::sync::Wait;
-use std::sync::atomic::{AtomicU64, Ordering};
 use std::thread::Threads;
 use std::time::Clock;
 use std::{env, io};
 
 // Pretended requests, two for each worker: the route, the status, milliseconds and bytes. No route /admin is declared,
-// and no status 500 of /cart.
+// and no status 500 for /cart.
 const SERVED: [[(&str, i64, i64, i64); 2]; 4] = [
     [("/", 200, 3, 12_000), ("/", 404, 1, 90)],
     [("/cart", 200, 12, 4_500), ("/admin", 404, 1, 90)],
@@ -33,12 +33,12 @@ const SERVED: [[(&str, i64, i64, i64); 2]; 4] = [
     [("/pay", 200, 80, 700), ("/pay", 200, 95, 700)],
 ];
 
-// What the workers share: the instruments, found by their names; how many requests were served, and of how many the
-// route is not declared.
+// The seat of a worker, which counts what it is refused, and how many requests the worker has served.
+type Worker = (Counted, u64);
+
+// What the workers share: the instruments, found by their names.
 #[derive(Drop)]
 struct Shop {
-    served: AtomicU64,
-    unknown: AtomicU64,
     requests: Counter,
     errors: BoundCounter,
     duration: Histogram,
@@ -51,8 +51,6 @@ struct Shop {
 impl Shop {
     fn new(plan: &Plan) -> Result<Shop> {
         Ok(Shop {
-            served: AtomicU64::new(0),
-            unknown: AtomicU64::new(0),
             requests: counter(plan, "shop", "http.requests", &["route", "status"])?,
             errors: counter(plan, "shop", "http.errors", &[])?.bind(plan, &[])?,
             duration: histogram(plan, "shop", "http.request.duration", &["route"])?,
@@ -63,16 +61,14 @@ impl Shop {
         })
     }
 
-    // Serves the requests of a worker, and records each. Metrics stop no service: the seat counts what is refused. A
-    // route that is not declared is counted as /.
-    fn serve<R: Wait + Clock>(&self, rt: &R, provider: &MeterProvider, seat: &mut Counted) {
-        let (number, mut unknown) = (seat.seat().number(), Replaced::none());
+    // Serves the requests of a worker, and records each. Metrics stop no service: the seat counts what is refused.
+    fn serve<R: Wait + Clock>(&self, rt: &R, provider: &MeterProvider, worker: &mut Worker) {
+        let (seat, served) = worker;
+        let number = seat.seat().number();
         for (route, status, took, size) in SERVED[number as usize % SERVED.len()] {
             let mut at = seat.at(rt, provider);
             let (items, errors) = (i64::from(status == 200), i64::from(status == 500));
             let route = Attr::text("route", route);
-            let known = at.known_or(&self.requests, &mut unknown, route, ValueRef::Text("/"));
-            let route = known.unwrap_or(route);
             let status = Attr::whole("status", status);
             let worker = Attr::whole("worker", i64::from(number));
             let _ = at.add(&self.requests, &[route, status], 1);
@@ -82,15 +78,14 @@ impl Shop {
             let _ = at.record(&self.latest, &[worker], took);
             let _ = at.add(&self.sold, &[route], items);
             let _ = at.add(&self.stock, &[], -items);
-            self.served.fetch_add(1, Ordering::SeqCst);
+            *served = served.saturating_add(1);
         }
-        self.unknown.fetch_add(unknown.values, Ordering::SeqCst);
     }
 }
 
-impl Work<Counted, MeterProvider> for Shop {
-    fn work<R: Wait + Clock>(&self, rt: &R, provider: &MeterProvider, seat: &mut Counted) {
-        self.serve(rt, provider, seat);
+impl Work<Worker, MeterProvider> for Shop {
+    fn work<R: Wait + Clock>(&self, rt: &R, provider: &MeterProvider, worker: &mut Worker) {
+        self.serve(rt, provider, worker);
     }
 }
 
@@ -103,12 +98,22 @@ fn main(rt: HostRuntime) -> Result<()> {
     let first = fs::read_to_string(&rt, catalogue)?;
     let second = fs::read_to_string(&rt, config)?;
     // A lane for each worker, so that none waits for another.
-    let opened = open_with_lanes(&rt, alloc, &first, &second, 4, now(&rt)?, &mut runs);
-    let texts = [named(catalogue, &first), named(config, &second)];
-    let (provider, recorders, readers) = diagnosed(alloc, texts, opened)?;
-    let service = Service::builder(provider, readers, runs);
-    let file = File::options().append(true).create(true).open(&rt, file)?;
-    run(&rt, service, recorders, file)
+    match open_with_lanes(&rt, alloc, &first, &second, 4, now(&rt)?, &mut runs) {
+        Ok((provider, recorders, readers)) => {
+            let service = Service::builder(provider, readers, runs);
+            let file = File::options().append(true).create(true).open(&rt, file)?;
+            run(&rt, service, recorders, file)
+        }
+        Err(SetupFault::Catalogue(fault)) => {
+            let told = diagnose_catalogue(alloc, named(catalogue, &first), fault)?;
+            bail!("{told}")
+        }
+        Err(SetupFault::Config(fault)) => {
+            let told = diagnose_config(alloc, named(config, &second), fault)?;
+            bail!("{told}")
+        }
+        Err(fault) => bail!("{fault}"),
+    }
 }
 
 fn named<'a>(name: &'a str, text: &'a str) -> NamedText<'a> {
@@ -123,10 +128,12 @@ fn run<R: Threads + Wait + Clock + Print + Sync + AllocGlobal>(
     file: File,
 ) -> Result<()> {
     let alloc = rt.alloc();
-    let plan = service.plan();
-    let shop = Shop::new(plan)?;
-    let counting = |seat: Recorder| Counted::new(alloc, plan, seat).map_err(|left| left.1);
-    let workers: Vec<Counted> = recorders.into_iter().map(counting).try_collect(alloc)?;
+    let shop = Shop::new(service.plan())?;
+    let mut workers = Vec::with_capacity(alloc, recorders.len())?;
+    for seat in recorders {
+        let seat = Counted::new(alloc, service.plan(), seat);
+        workers.push((seat.map_err(|(_, refused)| refused)?, 0))?;
+    }
     // No lines are made where a boundary would leave as another one: the protocol has doubles for them.
     let all = service.reader("all").context("no reader \"all\"")?;
     let resource = Resource::new(alloc, &[Attr::text("service.name", "shop")])?;
@@ -137,13 +144,7 @@ fn run<R: Threads + Wait + Clock + Print + Sync + AllocGlobal>(
     let own = JsonLines::new(StdSink::new(io::writer(rt)), Times::LeftOut);
     let service = service.tell(alloc, "new", own, 60_000)?.build()?;
     let (service, workers) = live(rt, service, workers, &StopFlag::new(), &shop);
-    let (served, refused) = (
-        shop.served.load(Ordering::SeqCst),
-        refused(alloc, &workers)?,
-    );
-    let unknown = shop.unknown.load(Ordering::SeqCst);
-    println!(rt; "requests: {served}, of an unknown route: {unknown}")?;
-    let seats: Vec<Recorder> = workers.into_iter().map(Counted::into_seat).collect(alloc)?;
+    let (seats, served, refused) = counted(alloc, workers)?;
     let ended = service.end(rt, alloc, seats, now(rt)?)?;
     settle(rt, &ended.plan, &ended.totals, (served, refused))?;
     let ((_, all), new) = &ended.outlets;
@@ -152,17 +153,20 @@ fn run<R: Threads + Wait + Clock + Print + Sync + AllocGlobal>(
     Ok(())
 }
 
-// How many recordings of each instrument were refused, for whatever reason.
-fn refused(alloc: Global, workers: &[Counted]) -> Result<[u64; 7]> {
-    let mut refused = [0u64; 7];
-    for worker in workers {
-        for refusal in worker.refusals(alloc)? {
+// The seats of the workers; how many requests all of them served, and how many recordings of each instrument were
+// refused, for whatever reason.
+fn counted(alloc: Global, workers: Vec<Worker>) -> Result<(Vec<Recorder>, u64, [u64; 7])> {
+    let (mut seats, mut served, mut refused) = (Vec::new(alloc), 0u64, [0u64; 7]);
+    for (seat, own) in workers {
+        for refusal in seat.refusals(alloc)? {
             if let Some(count) = refused.get_mut(refusal.instrument as usize) {
                 *count = count.saturating_add(refusal.count);
             }
         }
+        served = served.saturating_add(own);
+        seats.push(seat.into_seat())?;
     }
-    Ok(refused)
+    Ok((seats, served, refused))
 }
 
 // Tells what each instrument came to. Fails where that is not what the workers counted.
@@ -175,5 +179,6 @@ fn settle<R: Print>(rt: &R, plan: &Plan, totals: &Totals, counts: (u64, [u64; 7]
         let is_counted = count.saturating_add(refused) == served;
         ensure!(is_counted, "{name} is not what the workers counted");
     }
+    println!(rt; "requests: {served}")?;
     Ok(())
 }
