@@ -37,11 +37,15 @@ static uint32_t collect_all(Seat *self, wormweekly_reader *reader, uint64_t now)
     return answer;
 }
 
-/* Collects an instrument, or all (None), at a time, the first two arguments, and answers what `told` makes of it. */
+static PyObject *tell_otlp(Run *run, wormweekly_reader *reader, void *resource);
+static PyObject *tell_otlp_line(Run *run, wormweekly_reader *reader, void *resource);
+
+/* Collects an instrument, or for OTLP all (None), at a time, the first two arguments, and answers what `told` makes of
+ * it. */
 static PyObject *collect_as(Seat *self, PyObject *const *args, PyObject *(*told)(Run *, wormweekly_reader *, void *),
                             void *beside) {
     Run *run = self->run;
-    int is_all = args[0] == Py_None;
+    int is_all = args[0] == Py_None && (told == tell_otlp || told == tell_otlp_line);
     Seat *on = is_all ? NULL : read_seat(run, args[0], run->state->instrument, "an instrument");
     uint64_t now;
     wormweekly_reader *reader;
