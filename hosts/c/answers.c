@@ -673,7 +673,7 @@ static const char RICH_TILL[] = "format = 1\n"
                                 "name = 'till'\n"
                                 "budget = [{ instrument = 0, amount = 92233720368547759 }]\n";
 
-static const char BAD_FORMAT[] = "catalogue:1:1: catalogue format 3 is not supported (only 1 and 2)";
+static const char BAD_FORMAT[] = "catalogue:1:1: catalogue format 4 is not supported (only 1 to 3)";
 static const char BAD_KIND[] = "catalogue:6:1: instrument 0 \"queue\": unknown kind \"guage\"; expected counter, up_down_counter, "
                                "histogram or gauge; did you mean gauge?";
 static const char NO_NAME[] = "config:2:1: reader 0: missing field \"name\"";
@@ -706,8 +706,8 @@ static const char LIMIT_REMARK[] = FEW_SETS "\n";
 static const struct row OPENING_ROWS[] = {
     { CALL(open), .catalogue = "format = \xff", .config = CONFIG, ALL_HANDLES, .answer = WORMWEEKLY_NO_TEXT },
     { CALL(open), .catalogue = CATALOGUE, .config = "\xff", ALL_HANDLES, .answer = WORMWEEKLY_NO_TEXT },
-    { CALL(open), .catalogue = "format = 3\n", .config = CONFIG, ALL_HANDLES, FAULT_TEXT(BAD_FORMAT) },
-    { CALL(open), .catalogue = "format = 3\n", .config = CONFIG, .is_short = 1, .answer = WORMWEEKLY_FAULT,
+    { CALL(open), .catalogue = "format = 4\n", .config = CONFIG, ALL_HANDLES, FAULT_TEXT(BAD_FORMAT) },
+    { CALL(open), .catalogue = "format = 4\n", .config = CONFIG, .is_short = 1, .answer = WORMWEEKLY_FAULT,
       .numbers = { 0, 0, 0, sizeof BAD_FORMAT - 1 }, .text = "c" },
     { CALL(open), .catalogue = MISSPELLED, .config = "format = 1\n[[reader]]\n", ALL_HANDLES, FAULT_TEXT(BAD_KIND) },
     { CALL(open), .catalogue = TILL, .config = "format = 1\n[[reader]]\n", ALL_HANDLES, FAULT_TEXT(NO_NAME) },

@@ -105,7 +105,7 @@ int main(int count, char **words) {
     if (count > 1) {
         recordings = strtoul(words[1], NULL, 10);
     }
-    printf("open: %u\n", open_shop("format = 3\n"));
+    printf("open: %u\n", open_shop("format = 4\n"));
     printf("record before it is open: %u\n", record("countrydepaid", 2, 1));
     printf("open: %u\n", open_shop(CATALOGUE));
 

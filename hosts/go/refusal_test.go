@@ -81,10 +81,10 @@ func TestRemarksAndFaultsHavePlaces(t *testing.T) {
 	if err != nil || len(remarks) != 1 || remarks[0] != "config:1:1: there is no reader, so nothing is collected" {
 		t.Errorf("%q, %v", remarks, err)
 	}
-	_, linted := Lint("format = 3\n", testConfig)
-	_, opened := Open("format = 3\n", testConfig)
+	_, linted := Lint("format = 4\n", testConfig)
+	_, opened := Open("format = 4\n", testConfig)
 	for _, err := range []error{linted, opened} {
-		const want = ": catalogue:1:1: catalogue format 3 is not supported (only 1 and 2)"
+		const want = ": catalogue:1:1: catalogue format 4 is not supported (only 1 to 3)"
 		if !errors.Is(err, ErrFault) || !strings.HasSuffix(err.Error(), want) {
 			t.Errorf("%v, and not %s", err, want)
 		}

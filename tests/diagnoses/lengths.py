@@ -43,7 +43,7 @@ budgets = ", ".join(f"i{number} = 1" for number in range(514))
 short = f"format = 3\n[[recorder]]\nname = 'r'\nbudget = {{ {budgets} }}\n"
 wants(
     told("expand short.toml", 3, short=short),
-    'short.toml: recorder 0 "r": field "budget" is too long; at most 512 budgets and a default are allowed',
+    'short.toml:4:1: recorder 0 "r": field "budget" is too long; at most 512 budgets are allowed',
 )
 
 config = "format = 1\n[[reader]]\nname = 'r'\n" + "[[view]]\naggregation = 'sum'\n" * 103

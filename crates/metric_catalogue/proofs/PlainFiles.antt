@@ -1,13 +1,11 @@
--- The format is 1 or 2, and in a file of format 1 no instrument lists combinations or has a spare budget.
-use Rattle.std.proofs.Common.{◌≡◌, ℕ, ℤ, suc, zero, pos, negsuc, ◌≤◌, ◌⊎◌, inl, inr, All, Bool, true, false, not, ◌&&◌, cond, List, [], ◌∷◌, ◌++◌, length, Option, Some, None, Ok, nat_le, codes, refl, sym, ap, subst, ◌∙◌, arith}
-use Rattle.std.proofs.lemmas.Bool.{and_parts}
-use Rattle.std.proofs.lemmas.Bool.Decides.{nat_tests}
+-- In a file of format 1 no instrument lists combinations or has a spare budget.
+use Rattle.std.proofs.Common.{◌≡◌, ℕ, All, Bool, not, List, [], ◌∷◌, ◌++◌, length, Option, Some, None, Ok, codes, refl, sym, ap, subst, ◌∙◌, arith}
 use Rattle.std.specs.List.{list_any}
-use Rattle.toml.specs.Data.{Data, Members, get_member}
+use Rattle.toml.specs.Data.{Members, get_member}
 use Rattle.metric_base.specs.Steps.{each, in_turn, require_some}
 use Rattle.metric_base.specs.StepLaws.{after_ok, in_turn_keeps, ok_is, require_ok}
 use Rattle.metric_table.specs.FieldLaws.{none_other}
-use Rattle.metric_table.specs.Fields.{field, format_up_to, integer_of, number_between, only, tables_field}
+use Rattle.metric_table.specs.Fields.{tables_field}
 use Rattle.metric_contents.specs.declared.contents.Instrument.{Instrument}
 use Rattle.metric_contents.specs.declared.contents.Key.{Key}
 use Rattle.metric_catalogue.specs.declared.instruments.Head.{Head}
@@ -20,10 +18,11 @@ use Rattle.metric_catalogue.specs.declared.fault.CatalogueSpot.{CatalogueSpot}
 use Rattle.metric_catalogue.specs.declared.fault.CatalogueField.TheVariants as fields
 use Rattle.metric_catalogue.specs.declared.fault.CataloguePlace.TheVariants as place
 use Rattle.metric_catalogue.specs.Allowed.{allowed_field, allowed_of}
-use Rattle.metric_catalogue.specs.Catalogues.{format_of_top, nothing_metered, top_fields}
+use Rattle.metric_catalogue.specs.Catalogues.{nothing_metered}
 use Rattle.metric_catalogue.specs.Faults.{faults_at, field_at}
 use Rattle.metric_catalogue.specs.Instruments.{advice_field, head_of, instrument_fields, instrument_name, instrument_of, is_instrument, limits_field, only_instrument_fields, range_field, spare_field, spare_within}
-use Rattle.metric_catalogue.specs.Keys.{key_of}
+use Rattle.metric_catalogue.specs.SharedKeys.{entries_field, key_entry}
+use Rattle.metric_catalogue.specs.declared.shared_keys.SharedKey.{SharedKey}
 use Rattle.metric_catalogue.specs.Meters.{is_meter, meter_of, with_meter}
 use Rattle.metric_catalogue.proofs.SoundLists.{each_sound}
 use Rattle.metric_catalogue.proofs.SoundRows.{rows_none}
@@ -60,92 +59,65 @@ spare_none : (at : CatalogueSpot) (table : Members) (spare : ℕ) → get_member
 unfolding spare_field
 spare_none at table spare none e = sym (ok_is 0 spare (Ok 0) refl (sym (ap (spare_within at) none) ∙ e))
 
-limits_none : (number : ℕ) (is_taken : Bool) (table : Members) (limits : Limits) → LacksBoth table
-    → limits_field number is_taken table ≡ Ok limits → (limits.allowed ≡ None) × (limits.spare ≡ 0)
+limits_none : (format : ℕ) (shared : List SharedKey) (number : ℕ) (is_taken : Bool) (table : Members) (limits : Limits) → LacksBoth table
+    → limits_field format shared number is_taken table ≡ Ok limits → (limits.allowed ≡ None) × (limits.spare ≡ 0)
 unfolding limits_field
-limits_none number is_taken table limits (no_rows, no_spare) e0 =
+limits_none format shared number is_taken table limits (no_rows, no_spare) e0 =
     let at = place.Instrument number in
-    after_ok (tables_field (faults_at (field_at at fields.Key)) 8 (codes "key") table) _ limits e0 (λ tables _ e1.
+    after_ok (entries_field format (field_at at fields.Key) table) _ limits e0 (λ entries _ e1.
     after_ok (allowed_field (field_at at fields.Allowed) table) _ limits e1 (λ rows listed e2.
     after_ok (spare_field (field_at at fields.Spare) table) _ limits e2 (λ spare spared e3.
     let (_, e4) = require_ok (not is_taken) (At DuplicateInstrument (field_at at fields.Name)) _ limits e3 in
-    after_ok (each (key_of number) [] tables) _ limits e4 (λ keys _ e5.
+    after_ok (each (key_entry shared number) [] entries) _ limits e4 (λ keys _ e5.
     after_ok (allowed_of (field_at at fields.Allowed) keys rows) _ limits e5 (λ allowed combined e6.
     let made : Limits = record { keys = keys; allowed = allowed; spare = spare } in
     let same : limits ≡ made = sym (ok_is made limits (Ok made) refl e6) in
     let empty : allowed ≡ None = sym (ok_is None allowed (Ok None) refl (sym (ap (allowed_of (field_at at fields.Allowed) keys) (rows_none (field_at at fields.Allowed) table rows no_rows listed)) ∙ combined)) in
     (ap (λ (l : Limits). l.allowed) same ∙ empty, ap (λ (l : Limits). l.spare) same ∙ spare_none (field_at at fields.Spare) table spare no_spare spared))))))
 
-instrument_none : (meter : ℕ) (before : List Instrument) (table : Members) (instrument : Instrument) → instrument_of 1 meter before table ≡ Ok instrument → IsFirst instrument
+instrument_none : (shared : List SharedKey) (meter : ℕ) (before : List Instrument) (table : Members) (instrument : Instrument) → instrument_of 1 shared meter before table ≡ Ok instrument → IsFirst instrument
 unfolding instrument_of
-instrument_none meter before table instrument e0 =
+instrument_none shared meter before table instrument e0 =
     let at = place.Instrument (length before) in
     after_ok (head_of 1 at table) _ instrument e0 (λ head headed e1.
     after_ok (range_field at head.kind table) _ instrument e1 (λ range _ e2.
     after_ok (advice_field at table) _ instrument e2 (λ advice _ e3.
-    after_ok (limits_field (length before) (list_any (is_instrument meter head.name) before) table) _ instrument e3 (λ limits limited e4.
+    after_ok (limits_field 1 shared (length before) (list_any (is_instrument meter head.name) before) table) _ instrument e3 (λ limits limited e4.
     let made : Instrument = record { meter = meter; name = head.name; kind = head.kind; unit = head.unit; description = head.description; lo = range.0; hi = range.1; advice = advice; keys = limits.keys; allowed = limits.allowed; spare = limits.spare } in
     let same : instrument ≡ made = sym (ok_is made instrument (Ok made) refl e4) in
-    let (no_rows, no_spare) = limits_none (length before) (list_any (is_instrument meter head.name) before) table limits (head_none at table head headed) limited in
+    let (no_rows, no_spare) = limits_none 1 shared (length before) (list_any (is_instrument meter head.name) before) table limits (head_none at table head headed) limited in
     (ap (λ (i : Instrument). i.allowed) same ∙ no_rows, ap (λ (i : Instrument). i.spare) same ∙ no_spare)))))
 
-instruments_plain : (format meter : ℕ) (before : List Instrument) (tables : List Members) (after : List Instrument) → each (instrument_of format meter) before tables ≡ Ok after
-    → All (IsPlain format) before → All (IsPlain format) after
-instruments_plain format meter before tables after e plain =
-    (each_sound (IsPlain format) (λ _ _. Unit {0}) (instrument_of format meter)
+instruments_plain : (format : ℕ) (shared : List SharedKey) (meter : ℕ) (before : List Instrument) (tables : List Members) (after : List Instrument)
+    → each (instrument_of format shared meter) before tables ≡ Ok after → All (IsPlain format) before → All (IsPlain format) after
+instruments_plain format shared meter before tables after e plain =
+    (each_sound (IsPlain format) (λ _ _. Unit {0}) (instrument_of format shared meter)
     (λ earlier table instrument made. record {
-      sound = λ first. instrument_none meter earlier table instrument (subst (λ (f : ℕ). instrument_of f meter earlier table ≡ Ok instrument) first made);
+      sound = λ first. instrument_none shared meter earlier table instrument (subst (λ (f : ℕ). instrument_of f shared meter earlier table ≡ Ok instrument) first made);
       apart = λ k d within. tt;
     })
     before tables after e (record { each = plain; apart = λ i j d before within. tt })).each
 
-meter_plain : (format : ℕ) (before : Metered) (table : Members) (after : Metered) → with_meter format before table ≡ Ok after
+meter_plain : (format : ℕ) (shared : List SharedKey) (before : Metered) (table : Members) (after : Metered) → with_meter format shared before table ≡ Ok after
     → All (IsPlain format) before.instruments → All (IsPlain format) after.instruments
 unfolding with_meter
-meter_plain format before table after e0 plain =
+meter_plain format shared before table after e0 plain =
     let at = place.Meter (length before.meters) in
     after_ok (meter_of at table) _ after e0 (λ meter _ e1.
     after_ok (tables_field (faults_at (field_at at fields.Instrument)) _ (codes "instrument") table) _ after e1 (λ tables _ e2.
     let (_, e3) = require_ok (not (list_any (is_meter meter) before.meters)) (At DuplicateMeter (field_at at fields.Name)) _ after e2 in
-    after_ok (each (instrument_of format (length before.meters)) before.instruments tables) _ after e3 (λ instruments made e4.
+    after_ok (each (instrument_of format shared (length before.meters)) before.instruments tables) _ after e3 (λ instruments made e4.
     let all : Metered = record { meters = before.meters ++ meter ∷ []; instruments = instruments } in
-    subst (λ (m : Metered). All (IsPlain format) m.instruments) (ok_is all after (Ok all) refl e4) (instruments_plain format (length before.meters) before.instruments tables instruments made plain))))
+    subst (λ (m : Metered). All (IsPlain format) m.instruments) (ok_is all after (Ok all) refl e4) (instruments_plain format shared (length before.meters) before.instruments tables instruments made plain))))
 
 -- no instrument of the meters of a file of format 1 lists combinations or has a spare budget
-pub meters_plain : (format : ℕ) (tables : List Members) (metered : Metered) → in_turn (with_meter format) nothing_metered tables ≡ Ok metered
+pub meters_plain : (format : ℕ) (shared : List SharedKey) (tables : List Members) (metered : Metered) → in_turn (with_meter format shared) nothing_metered tables ≡ Ok metered
     → format ≡ 1 → All (λ instrument. (instrument.allowed ≡ None) × (instrument.spare ≡ 0)) metered.instruments
-meters_plain format tables metered e first =
-    let plain = in_turn_keeps (λ (m : Metered). All (IsPlain format) m.instruments) (with_meter format) (meter_plain format) nothing_metered tables metered e (λ k d within. absurd (omega arith)) in
+meters_plain format shared tables metered e first =
+    let plain = in_turn_keeps (λ (m : Metered). All (IsPlain format) m.instruments) (with_meter format shared) (meter_plain format shared) nothing_metered tables metered e (λ k d within. absurd (omega arith)) in
     λ k d within. plain k d within first
-
-one_or_two : (z : ℤ) (n : ℕ) → number_between 1 2 z ≡ Some n → (n ≡ 1) ⊎ (n ≡ 2)
-one_or_two (negsuc m) n e = absurd cc
-one_or_two (pos m) n e = by (nat_le 1 m && nat_le m 2) refl e
-  where
-    between : (k : ℕ) → 1 ≤ k → k ≤ 2 → (k ≡ 1) ⊎ (k ≡ 2)
-    between zero low high = absurd (omega arith)
-    between (suc zero) low high = inl refl
-    between (suc (suc zero)) low high = inr refl
-    between (suc (suc (suc k))) low high = absurd (omega arith)
-
-    by : (b : Bool) → (nat_le 1 m && nat_le m 2) ≡ b → cond b (Some m) None ≡ Some n → (n ≡ 1) ⊎ (n ≡ 2)
-    by true h e1 =
-        let (low, high) = and_parts (nat_le 1 m) (nat_le m 2) h in
-        let same : m ≡ n = cc in
-        subst (λ (k : ℕ). (k ≡ 1) ⊎ (k ≡ 2)) same (between m (grind (arith, nat_tests)) (grind (arith, nat_tests)))
-    by false h e1 = absurd cc
 
 -- a needed value that was there
 pub some_made : {A E : Type 0} (o : Option A) (e : E) (x : A) → require_some o e ≡ Ok x → o ≡ Some x
 some_made None e x h = absurd cc
 some_made (Some y) e x h = ap Some (ok_is y x (Ok y) refl h)
-
--- the format of a top table is one of the two
-pub format_made : (table : Members) (format : ℕ) → format_of_top table ≡ Ok format → (format ≡ 1) ⊎ (format ≡ 2)
-unfolding format_of_top format_up_to
-format_made table format e0 =
-    let faults = faults_at (field_at place.Top fields.Format) in
-    after_ok (only (faults_at (field_at place.Top fields.Unknown)) top_fields table) _ format e0 (λ _ _ e1.
-    after_ok (field faults (codes "format") table) _ format e1 (λ d _ e2.
-    after_ok (integer_of faults d) _ format e2 (λ z _ e3.
-    one_or_two z format (some_made (number_between 1 2 z) faults.wrong_kind format e3))))

@@ -1,7 +1,7 @@
 -- What is read as a catalogue is sound.
-use Rattle.std.proofs.Common.{◌≡◌, ◌≢◌, ℕ, ℤ, pos, negsuc, ◌+◌, ◌-◌, ◌<◌, ◌≤◌, ◌^◌, ◌⊎◌, Bool, true, false, not, cond, List, [], ◌∷◌, ◌++◌, length, get_or, Some, None, Ok, refl, sym, ap, subst, ◌∙◌, arith, codes, nat_lt, eq-eqb, true≢false}
+use Rattle.std.proofs.Common.{◌≡◌, ◌≢◌, ℕ, ℤ, pos, negsuc, ◌+◌, ◌-◌, ◌<◌, ◌≤◌, ◌^◌, ◌⊎◌, inl, inr, Bool, true, false, not, cond, All, List, [], ◌∷◌, ◌++◌, length, map, get_or, Some, None, Ok, refl, sym, ap, subst, ◌∙◌, ◌==◌, arith, codes, nat_lt, eq-eqb, true≢false}
 use Rattle.std.proofs.lemmas.Bool.Decides.{nat_tests}
-use Rattle.std.proofs.lemmas.List.{length-append}
+use Rattle.std.proofs.lemmas.List.{length-append, length-map}
 use Rattle.std.proofs.lemmas.Slice.Eq.{bytes_eq-Decides}
 use Rattle.std.specs.List.{list_any}
 use Rattle.std.specs.Str.{bytes_eq}
@@ -15,12 +15,13 @@ use Rattle.metric_contents.specs.declared.contents.Instrument.{Instrument}
 use Rattle.metric_contents.specs.declared.contents.Meter.{Meter}
 use Rattle.metric_contents.specs.declared.contents.Recorder.{Recorder}
 use Rattle.metric_catalogue.specs.declared.meters.Metered.{Metered}
+use Rattle.metric_catalogue.specs.declared.named.Named.{Named}
 use Rattle.metric_catalogue.specs.declared.fault.CatalogueDefect.TheVariants.{BadRange, DuplicateBudget, DuplicateMeter, DuplicateRecorder, UnknownInstrument}
 use Rattle.metric_catalogue.specs.declared.fault.CatalogueFault.TheVariants.{At}
 use Rattle.metric_catalogue.specs.declared.fault.CataloguePlace.{CataloguePlace}
 use Rattle.metric_catalogue.specs.declared.fault.CatalogueField.TheVariants as fields
 use Rattle.metric_catalogue.specs.declared.fault.CataloguePlace.TheVariants as place
-use Rattle.metric_catalogue.specs.Catalogues.{contents_declared, contents_of, format_of_top, nothing_metered}
+use Rattle.metric_catalogue.specs.Catalogues.{contents_declared, contents_of, declared_format, format_of_top, nothing_metered, recorders_declared}
 use Rattle.metric_catalogue.specs.Faults.{faults_at, field_at}
 use Rattle.metric_catalogue.specs.Instruments.{instrument_of}
 use Rattle.metric_catalogue.specs.Meters.{is_meter, meter_of, only_meter_fields, with_meter}
@@ -28,9 +29,14 @@ use Rattle.metric_catalogue.specs.Recorders.{amount_field, amount_from, budget_f
 use Rattle.metric_contents.specs.Budgets.{is_budget}
 use Rattle.metric_catalogue.specs.Sound.{AreInstrumentsApart, IsLabel, IsSound, IsSoundBudget, IsSoundInstrument, IsSoundList, IsSoundMeter, IsSoundRecorder}
 use Rattle.metric_catalogue.specs.Texts.{free_text, needed_text}
-use Rattle.metric_catalogue.proofs.PlainFiles.{format_made, meters_plain, some_made}
+use Rattle.metric_catalogue.proofs.PlainFiles.{meters_plain, some_made}
 use Rattle.metric_catalogue.proofs.SoundInstruments.{amount_made, instrument_made}
 use Rattle.metric_catalogue.proofs.SoundKeys.{free_made, label_made, needed_made}
+use Rattle.metric_catalogue.specs.declared.shared_keys.SharedKey.{SharedKey}
+use Rattle.metric_catalogue.specs.Seats.{named_in, seats_declared}
+use Rattle.metric_catalogue.specs.SharedKeys.{shared_key}
+use Rattle.metric_catalogue.proofs.SoundSeats.{seats_sound}
+use Rattle.metric_catalogue.proofs.SoundShared.{IsSoundShared, shared_made}
 use Rattle.metric_catalogue.proofs.SoundLists.{AreSound, IsNext, apart_by, each_length, each_sound, made_sound, sound_none, sound_push, tables_few, texts_apart}
 
 -- the meters so far, and their instruments
@@ -78,25 +84,25 @@ one_more meters instrument sound = record {
   spare = sound.spare;
 }
 
-meter_made : (format : ℕ) (before : Metered) (table : Members) (after : Metered) → with_meter format before table ≡ Ok after → IsSoundSoFar before → IsSoundSoFar after × (length after.meters ≡ length before.meters + 1)
+meter_made : (format : ℕ) (shared : List SharedKey) → All IsSoundShared shared → (before : Metered) (table : Members) (after : Metered) → with_meter format shared before table ≡ Ok after → IsSoundSoFar before → IsSoundSoFar after × (length after.meters ≡ length before.meters + 1)
 unfolding with_meter
-meter_made format before table after e0 so_far =
+meter_made format shared sound_shared before table after e0 so_far =
     let at = place.Meter (length before.meters) in
     let number = length before.meters in
     after_ok (meter_of at table) _ after e0 (λ meter textual e1.
     after_ok (tables_field (faults_at (field_at at fields.Instrument)) (512 - length before.instruments) (codes "instrument") table) _ after e1 (λ tables listed e2.
     let (new, e3) = require_ok (not (list_any (is_meter meter) before.meters)) (At DuplicateMeter (field_at at fields.Name)) _ after e2 in
-    after_ok (each (instrument_of format number) before.instruments tables) _ after e3 (λ instruments made e4.
+    after_ok (each (instrument_of format shared number) before.instruments tables) _ after e3 (λ instruments made e4.
     let all : Metered = record { meters = before.meters ++ meter ∷ []; instruments = instruments } in
     let long : length all.meters ≡ number + 1 = length-append before.meters (meter ∷ []) in
     let short = tables_few (faults_at (field_at at fields.Instrument)) (512 - length before.instruments) (codes "instrument") table tables listed in
-    let count = each_length (instrument_of format number) before.instruments tables instruments made in
+    let count = each_length (instrument_of format shared number) before.instruments tables instruments made in
     let few = so_far.few in
     let earlier : AreSound (IsSoundInstrument (number + 1)) AreInstrumentsApart before.instruments = record {
       each = λ k d within. one_more number (get_or before.instruments k d) (so_far.instruments.each k d within);
       apart = so_far.instruments.apart;
     } in
-    let later = each_sound (IsSoundInstrument (number + 1)) AreInstrumentsApart (instrument_of format number) (instrument_made format number (number + 1) (omega arith)) before.instruments tables instruments made earlier in
+    let later = each_sound (IsSoundInstrument (number + 1)) AreInstrumentsApart (instrument_of format shared number) (instrument_made format shared sound_shared number (number + 1) (omega arith)) before.instruments tables instruments made earlier in
     let next : IsNext IsSoundMeter (λ m o. m ≢ o) before.meters meter = record {
       sound = texts_made at table meter textual;
       apart = apart_by (λ m o. m ≢ o) (is_meter meter) before.meters meter (meters_apart meter) new;
@@ -110,15 +116,16 @@ meter_made format before table after e0 so_far =
     (subst IsSoundSoFar same sound, subst (λ (m : Metered). length m.meters ≡ number + 1) same long))))
 
 -- all the meters of a file
-meters_made : (format : ℕ) (before : Metered) (tables : List Members) (after : Metered) → in_turn (with_meter format) before tables ≡ Ok after → IsSoundSoFar before → IsSoundSoFar after × (length after.meters ≡ length before.meters + length tables)
-meters_made format before [] after e so_far =
+meters_made : (format : ℕ) (shared : List SharedKey) → All IsSoundShared shared → (before : Metered) (tables : List Members) (after : Metered) → in_turn (with_meter format shared) before tables ≡ Ok after
+    → IsSoundSoFar before → IsSoundSoFar after × (length after.meters ≡ length before.meters + length tables)
+meters_made format shared sound_shared before [] after e so_far =
     let same = ok_is before after (Ok before) refl e in
     let none : length before.meters ≡ length before.meters + 0 = omega arith in
     (subst IsSoundSoFar same so_far, subst (λ (m : Metered). length m.meters ≡ length before.meters + 0) same none)
-meters_made format before (table ∷ tables) after e so_far =
-    after_ok (with_meter format before table) _ after e (λ next made rest.
-    let (sound, one) = meter_made format before table next made so_far in
-    let (all, more) = meters_made format next tables after rest sound in
+meters_made format shared sound_shared before (table ∷ tables) after e so_far =
+    after_ok (with_meter format shared before table) _ after e (λ next made rest.
+    let (sound, one) = meter_made format shared sound_shared before table next made so_far in
+    let (all, more) = meters_made format shared sound_shared next tables after rest sound in
     (all, omega arith))
 
 below_made : (count : ℕ) (z : ℤ) (n : ℕ) → number_below count z ≡ Some n → n < count
@@ -171,7 +178,7 @@ budgets_made number count is_taken table budgets e0 =
 recorder_name_made : (at : CataloguePlace) (table : Members) (name : List ℕ) → recorder_name at table ≡ Ok name → IsLabel name
 unfolding recorder_name
 recorder_name_made at table name e0 =
-    after_ok (only (faults_at (field_at at fields.Unknown)) recorder_fields table) _ name e0 (λ _ _ named. label_made (field_at at fields.Name) table name named)
+    after_ok (only (faults_at (field_at at fields.Unknown)) recorder_fields table) _ name e0 (λ _ _ named. label_made (field_at at fields.Name) (codes "name") table name named)
 
 recorder_made : (count : ℕ) (before : List Recorder) (table : Members) (recorder : Recorder) → recorder_of count before table ≡ Ok recorder
     → IsNext (IsSoundRecorder count) (λ o r. o.name ≢ r.name) before recorder
@@ -191,36 +198,65 @@ recorder_made count before table recorder e0 =
     } in
     subst (IsNext (IsSoundRecorder count) (λ o r. o.name ≢ r.name) before) (ok_is made recorder (Ok made) refl e2) next))
 
+-- the recorders beside some instruments
+recorders_made : (format : ℕ) (m : Metered) (tables : List Members) (recorders : List Recorder) → length m.instruments ≤ 512 → length tables ≤ 64 → recorders_declared format m tables ≡ Ok recorders
+    → IsSoundList 64 (IsSoundRecorder (length m.instruments)) (λ o r. o.name ≢ r.name) recorders
+recorders_made format m tables recorders few_named few e = by (format == 3) e
+  where
+    named : List Named
+    named = map (named_in m.meters) m.instruments
+
+    by : (b : Bool) → cond b (seats_declared named tables) (each (recorder_of (length m.instruments)) [] tables) ≡ Ok recorders → IsSoundList 64 (IsSoundRecorder (length m.instruments)) (λ o r. o.name ≢ r.name) recorders
+    by true told =
+        let count : length named ≡ length m.instruments = length-map m.instruments (named_in m.meters) in
+        subst (λ (n : ℕ). IsSoundList 64 (IsSoundRecorder n) (λ o r. o.name ≢ r.name) recorders) count (seats_sound named tables recorders (omega (arith, count, few_named)) told)
+    by false told = made_sound 64 (IsSoundRecorder (length m.instruments)) (λ o r. o.name ≢ r.name) (recorder_of (length m.instruments)) (recorder_made (length m.instruments)) tables recorders told few
+
+abbrev one_if : Bool → ℕ
+one_if first = cond first 1 2
+
+one_or_two : (first : Bool) → (one_if first ≡ 1) ⊎ (one_if first ≡ 2)
+one_or_two true = inl refl
+one_or_two false = inr refl
+
+only_first : (format : ℕ) → declared_format format ≡ 1 → format ≡ 1
+only_first format e = by (format == 1) refl e
+  where
+    by : (b : Bool) → (format == 1) ≡ b → one_if b ≡ 1 → format ≡ 1
+    by true is one = grind (arith, nat_tests)
+    by false is one = absurd (omega (arith, one))
+
 -- what a few tables declare in a format
-declared_made : (format : ℕ) (meters recorders : List Members) (c : Contents) → (format ≡ 1) ⊎ (format ≡ 2) → length meters ≤ 64 → length recorders ≤ 64
-    → contents_declared format meters recorders ≡ Ok c → IsSound c
+declared_made : (format : ℕ) (keys meters recorders : List Members) (c : Contents) → length meters ≤ 64 → length recorders ≤ 64 → contents_declared format keys meters recorders ≡ Ok c → IsSound c
 unfolding contents_declared
-declared_made format meters recorders c known few_meters few_recorders e0 =
-    after_ok (in_turn (with_meter format) nothing_metered meters) _ c e0 (λ metered made e1.
-    after_ok (each (recorder_of (length metered.instruments)) [] recorders) _ c e1 (λ declared recorded e2.
-    let count = length metered.instruments in
+declared_made format keys meters recorders c few_meters few_recorders e0 =
+    after_ok (each shared_key [] keys) _ c e0 (λ shared keyed e1.
+    after_ok (in_turn (with_meter format shared) nothing_metered meters) _ c e1 (λ metered made e2.
+    after_ok (recorders_declared format metered recorders) _ c e2 (λ declared recorded e3.
+    let known : All IsSoundShared shared = (each_sound IsSoundShared (λ _ _. Unit {0}) shared_key shared_made [] keys shared keyed (sound_none IsSoundShared (λ _ _. Unit {0}))).each in
     let first : IsSoundSoFar nothing_metered = record {
       meters = sound_none IsSoundMeter (λ m o. m ≢ o);
       instruments = sound_none (IsSoundInstrument 0) AreInstrumentsApart;
       few = omega arith;
     } in
-    let (all, long) = meters_made format nothing_metered meters metered made first in
-    let read : Contents = record { format = format; meters = metered.meters; instruments = metered.instruments; recorders = declared } in
+    let (all, long) = meters_made format shared known nothing_metered meters metered made first in
+    let read : Contents = record { format = declared_format format; meters = metered.meters; instruments = metered.instruments; recorders = declared } in
     let sound : IsSound read = record {
-      format = known;
-      plain = meters_plain format meters metered made;
+      format = one_or_two (format == 1);
+      plain = λ one. meters_plain format shared meters metered made (only_first format one);
       meters = record { few = omega arith; each = all.meters.each; apart = all.meters.apart };
       instruments = record { few = all.few; each = all.instruments.each; apart = all.instruments.apart };
-      recorders = made_sound 64 (IsSoundRecorder count) (λ o r. o.name ≢ r.name) (recorder_of count) (recorder_made count) recorders declared recorded few_recorders;
+      recorders = recorders_made format metered recorders declared all.few few_recorders recorded;
     } in
-    subst IsSound (ok_is read c (Ok read) refl e2) sound))
+    subst IsSound (ok_is read c (Ok read) refl e3) sound)))
 
-pub contents_made : (table : Members) (c : Contents) → contents_of table ≡ Ok c → IsSound c
+pub contents_made : (is_shared : Bool) (table : Members) (c : Contents) → contents_of is_shared table ≡ Ok c → IsSound c
 unfolding contents_of
-contents_made table c e0 =
-    after_ok (format_of_top table) _ c e0 (λ format told e1.
-    after_ok (tables_field (faults_at (field_at place.Top fields.Meter)) 64 (codes "meter") table) _ c e1 (λ meters metered e2.
-    after_ok (tables_field (faults_at (field_at place.Top fields.Recorder)) 64 (codes "recorder") table) _ c e2 (λ recorders recorded e3.
+contents_made is_shared table c e0 =
+    after_ok (format_of_top is_shared table) _ c e0 (λ format _ e1.
+    after_ok (tables_field (faults_at (field_at place.Top fields.Key)) 512 (codes "key") table) _ c e1 (λ keys _ e2.
+    after_ok (tables_field (faults_at (field_at place.Top fields.Meter)) 64 (codes "meter") table) _ c e2 (λ meters metered e3.
+    after_ok (tables_field (faults_at (field_at place.Top fields.Recorder)) 64 (codes "recorder") table) _ c e3 (λ recorders recorded e4.
     let few_meters = tables_few (faults_at (field_at place.Top fields.Meter)) 64 (codes "meter") table meters metered in
     let few_recorders = tables_few (faults_at (field_at place.Top fields.Recorder)) 64 (codes "recorder") table recorders recorded in
-    declared_made format meters recorders c (format_made table format told) few_meters few_recorders e3)))
+    declared_made format keys meters recorders c few_meters few_recorders e4))))

@@ -1,5 +1,5 @@
 -- What is read as an instrument is sound.
-use Rattle.std.proofs.Common.{◌≡◌, ◌≢◌, ℕ, ℤ, pos, negsuc, ◌≤ℤ◌, ◌<◌, ◌≤◌, ◌^◌, Bool, true, false, not, ◌&&◌, ◌||◌, ◌==◌, List, [], length, Option, Some, None, Result, Ok, Err, refl, sym, ap, subst, ◌∙◌, arith, codes, int_le, IsTrue, IfSome, eq-eqb, true≢false, unwrap_or, cond, nat_lt}
+use Rattle.std.proofs.Common.{◌≡◌, ◌≢◌, ℕ, ℤ, pos, negsuc, ◌≤ℤ◌, ◌<◌, ◌≤◌, ◌^◌, All, Bool, true, false, not, ◌&&◌, ◌||◌, ◌==◌, List, [], length, Option, Some, None, Result, Ok, Err, refl, sym, ap, subst, ◌∙◌, arith, codes, int_le, IsTrue, IfSome, eq-eqb, true≢false, unwrap_or, cond, nat_lt}
 use Rattle.std.proofs.lemmas.Bool.Decides.{nat_tests}
 use Rattle.std.proofs.lemmas.Int.{ints}
 use Rattle.std.proofs.lemmas.Slice.Eq.{bytes_eq-Decides}
@@ -12,7 +12,7 @@ use Rattle.metric_base.specs.StepLaws.{after_ok, require_ok, ok_is}
 use Rattle.metric_names.specs.NameLaws.{name_of-IsName, unit_of-IsUnit}
 use Rattle.metric_names.specs.Names.{folded, IsName, IsSameName, name_of}
 use Rattle.metric_names.specs.Units.{IsUnit, unit_of}
-use Rattle.metric_table.specs.Fields.{integer_of, integers_of, list_of, optional_text, tables_field, text_field}
+use Rattle.metric_table.specs.Fields.{integer_of, integers_of, list_of, optional_text, text_field}
 use Rattle.metric_contents.specs.declared.contents.Instrument.{Instrument}
 use Rattle.metric_contents.specs.declared.contents.Key.{Key}
 use Rattle.metric_contents.specs.declared.contents.Kind.{Kind}
@@ -27,15 +27,17 @@ use Rattle.metric_catalogue.specs.declared.fault.CataloguePlace.TheVariants as p
 use Rattle.metric_catalogue.specs.Faults.{faults_at, field_at}
 use Rattle.metric_catalogue.specs.Instruments.{advice_field, boundaries_of, boundaries_within, head_of, instrument_name, instrument_of, is_instrument, is_range, kind_field, only_instrument_fields, limits_field, pair_field, range_field, spare_field, spare_within, unit_field}
 use Rattle.metric_catalogue.specs.Allowed.{allowed_field, allowed_of}
-use Rattle.metric_catalogue.specs.Keys.{key_of}
+use Rattle.metric_catalogue.specs.SharedKeys.{entries_field, key_entry}
+use Rattle.metric_catalogue.specs.declared.shared_keys.SharedKey.{SharedKey}
 use Rattle.metric_contents.specs.Kinds.{is_monotonic}
 use Rattle.metric_catalogue.specs.Recorders.{amount_from}
 use Rattle.metric_catalogue.specs.Sound.{AreBoundaries, AreInstrumentsApart, AreSoundRows, IsFreeText, IsSoundInstrument, IsSoundKey, IsSoundList}
 use Rattle.metric_catalogue.specs.Texts.{free_text}
 use Rattle.metric_catalogue.proofs.PlainFiles.{some_made}
-use Rattle.metric_catalogue.proofs.SoundKeys.{free_made, key_made}
+use Rattle.metric_catalogue.proofs.SoundKeys.{free_made}
+use Rattle.metric_catalogue.proofs.SoundShared.{IsSoundShared, entries_few, entry_made}
 use Rattle.metric_catalogue.proofs.SoundRows.{allowed_made, rows_few}
-use Rattle.metric_catalogue.proofs.SoundLists.{IsNext, apart_by, each_length, list_few, made_sound, tables_few}
+use Rattle.metric_catalogue.proofs.SoundLists.{IsNext, apart_by, each_length, list_few, made_sound}
 
 -- what a range is
 range_is : (kind : Kind) (lo hi : ℤ) → is_range kind (lo, hi) ≡ true → (lo ≤ℤ hi) × (IsTrue (is_monotonic kind) → pos 0 ≤ℤ lo)
@@ -148,18 +150,18 @@ record AreSoundLimits (limits : Limits) : Type 0 where
   spare : limits.spare < 2 ^ 63
 
 -- those of an instrument whose name is not taken
-limits_made : (number : ℕ) (is_taken : Bool) (table : Members) (limits : Limits) → limits_field number is_taken table ≡ Ok limits
-    → (not is_taken ≡ true) × AreSoundLimits limits
+limits_made : (format : ℕ) (shared : List SharedKey) → All IsSoundShared shared → (number : ℕ) (is_taken : Bool) (table : Members) (limits : Limits)
+    → limits_field format shared number is_taken table ≡ Ok limits → (not is_taken ≡ true) × AreSoundLimits limits
 unfolding limits_field
-limits_made number is_taken table limits e0 =
+limits_made format shared known number is_taken table limits e0 =
     let at = place.Instrument number in
-    after_ok (tables_field (faults_at (field_at at fields.Key)) 8 (codes "key") table) _ limits e0 (λ tables listed e1.
+    after_ok (entries_field format (field_at at fields.Key) table) _ limits e0 (λ entries listed e1.
     after_ok (allowed_field (field_at at fields.Allowed) table) _ limits e1 (λ rows told_rows e2.
     after_ok (spare_field (field_at at fields.Spare) table) _ limits e2 (λ spare spared e3.
     let (new, e4) = require_ok (not is_taken) (At DuplicateInstrument (field_at at fields.Name)) _ limits e3 in
-    after_ok (each (key_of number) [] tables) _ limits e4 (λ keys keyed e5.
+    after_ok (each (key_entry shared number) [] entries) _ limits e4 (λ keys keyed e5.
     after_ok (allowed_of (field_at at fields.Allowed) keys rows) _ limits e5 (λ allowed combined e6.
-    let sound_keys = made_sound 8 IsSoundKey (λ o k. o.name ≢ k.name) (key_of number) (key_made number) tables keys keyed (tables_few (faults_at (field_at at fields.Key)) 8 (codes "key") table tables listed) in
+    let sound_keys = made_sound 8 IsSoundKey (λ o k. o.name ≢ k.name) (key_entry shared number) (entry_made shared known number) entries keys keyed (entries_few format (field_at at fields.Key) table entries listed) in
     let made : Limits = record { keys = keys; allowed = allowed; spare = spare } in
     let sound : AreSoundLimits made = record {
       keys = sound_keys;
@@ -168,16 +170,17 @@ limits_made number is_taken table limits e0 =
     } in
     (new, subst AreSoundLimits (ok_is made limits (Ok made) refl e6) sound))))))
 
-pub instrument_made : (format meter meters : ℕ) → meter < meters → (before : List Instrument) (table : Members) (instrument : Instrument) → instrument_of format meter before table ≡ Ok instrument
+pub instrument_made : (format : ℕ) (shared : List SharedKey) → All IsSoundShared shared → (meter meters : ℕ) → meter < meters → (before : List Instrument) (table : Members) (instrument : Instrument)
+    → instrument_of format shared meter before table ≡ Ok instrument
     → IsNext (IsSoundInstrument meters) AreInstrumentsApart before instrument
 unfolding instrument_of
-instrument_made format meter meters known before table instrument e0 =
+instrument_made format shared sound_shared meter meters known before table instrument e0 =
     let at = place.Instrument (length before) in
     after_ok (head_of format at table) _ instrument e0 (λ head headed e1.
     after_ok (range_field at head.kind table) _ instrument e1 (λ range ranged e2.
     after_ok (advice_field at table) _ instrument e2 (λ advice advised e3.
-    after_ok (limits_field (length before) (list_any (is_instrument meter head.name) before) table) _ instrument e3 (λ limits limited e4.
-    let (new, sound_limits) = limits_made (length before) (list_any (is_instrument meter head.name) before) table limits limited in
+    after_ok (limits_field format shared (length before) (list_any (is_instrument meter head.name) before) table) _ instrument e3 (λ limits limited e4.
+    let (new, sound_limits) = limits_made format shared sound_shared (length before) (list_any (is_instrument meter head.name) before) table limits limited in
     let (ordered, not_negative) = range_is head.kind range.0 range.1 (range_made at head.kind table range ranged) in
     let sound_head = head_made format at table head headed in
     let made : Instrument = record { meter = meter; name = head.name; kind = head.kind; unit = head.unit; description = head.description; lo = range.0; hi = range.1; advice = advice; keys = limits.keys; allowed = limits.allowed; spare = limits.spare } in

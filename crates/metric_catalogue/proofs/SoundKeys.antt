@@ -1,6 +1,7 @@
 -- What is read as a text or a key is sound.
-use Rattle.std.proofs.Common.{◌≡◌, ◌≢◌, ℕ, ◌+◌, ◌<◌, Bool, true, false, cond, not, ◌==◌, List, [], ◌∷◌, ◌++◌, length, Some, is_some, Ok, refl, sym, subst, ◌∙◌, arith, codes, nat_le, append_assoc, append-nil, true≢false, unwrap_or}
+use Rattle.std.proofs.Common.{◌≡◌, ◌≢◌, ℕ, ◌+◌, ◌<◌, Bool, true, false, cond, not, ◌||◌, ◌==◌, List, [], ◌∷◌, ◌++◌, length, Option, Some, None, is_some, Ok, refl, sym, subst, ◌∙◌, arith, codes, nat_le, nat_lt, append_assoc, append-nil, true≢false, unwrap_or}
 use Rattle.std.proofs.lemmas.Bool.Decides.{nat_tests}
+use Rattle.std.proofs.lemmas.List.{length-append}
 use Rattle.std.proofs.lemmas.List.Elements.{All-from_recursion}
 use Rattle.std.proofs.lemmas.List.Quantifiers.{all_pairs_push}
 use Rattle.std.specs.List.{AllByRecursion, AllPairs, list_any, position_from}
@@ -18,14 +19,14 @@ use Rattle.metric_catalogue.specs.declared.fault.CataloguePlace.TheVariants as p
 use Rattle.metric_catalogue.specs.declared.fault.CatalogueSpot.{CatalogueSpot}
 use Rattle.metric_catalogue.specs.declared.fault.CatalogueField.TheVariants as fields
 use Rattle.metric_catalogue.specs.Faults.{entry_at, faults_at, field_at}
-use Rattle.metric_catalogue.specs.Keys.{key_name, key_of, next_value, only_key_fields, optional_field, some_values, value_at, values_field}
+use Rattle.metric_catalogue.specs.Keys.{key_name, key_named, key_of, next_value, only_key_fields, optional_field, some_values, value_at, values_field, values_with}
 use Rattle.metric_contents.specs.KeyNames.{is_key}
 use Rattle.metric_contents.specs.SameValues.{same_value-Decides}
 use Rattle.metric_contents.specs.Places.{has_repeat, place, repeats_after, same_value}
 use Rattle.metric_catalogue.specs.Sound.{IsFreeText, IsLabel, IsSoundKey, IsSoundList, IsSoundValue}
-use Rattle.metric_catalogue.specs.Texts.{free_text, label_field, needed_text}
+use Rattle.metric_catalogue.specs.Texts.{free_text, label_field, label_of, needed_text}
 use Rattle.std.proofs.lemmas.Bool.{not-true, or_parts}
-use Rattle.metric_catalogue.proofs.SoundLists.{IsNext, apart_by, each_length, list_few, made_sound, texts_apart}
+use Rattle.metric_catalogue.proofs.SoundLists.{AreSound, IsNext, apart_by, each_length, list_few, made_sound, sound_push, texts_apart}
 
 -- a short text is the text, and is a free text
 short_made : (at : CatalogueSpot) (text name : List ℕ) → short_text (faults_at at) text ≡ Ok name → (text ≡ name) × IsFreeText name
@@ -47,24 +48,25 @@ free_made at name table text e0 =
     after_ok (optional_text (faults_at at) name table) _ text e0 (λ t _ e1. (short_made at (unwrap_or t []) text e1).1)
 
 -- the name of a key or a recorder is a label
-pub label_made : (at : CatalogueSpot) (table : Members) (name : List ℕ) → label_field at table ≡ Ok name → IsLabel name
-unfolding label_field
-label_made at table name e0 =
-    after_ok (text_field (faults_at at) (codes "name") table) _ name e0 (λ text _ e1.
+pub named_made : (at : CatalogueSpot) (text name : List ℕ) → label_of at text ≡ Ok name → IsLabel name
+named_made at text name e1 =
     let (full, e2) = require_ok (not (length text == 0)) (At BadName at) _ name e1 in
     let (same, free) = short_made at text name e2 in
     let some : 0 < length text = grind (arith, nat_tests) in
-    record { some = subst (λ (t : List ℕ). 0 < length t) same some; free = free })
+    record { some = subst (λ (t : List ℕ). 0 < length t) same some; free = free }
 
-name_made : (at : CataloguePlace) (table : Members) (name : List ℕ) → key_name at table ≡ Ok name → IsLabel name × (name ≢ codes "otel.metric.overflow")
+pub label_made : (at : CatalogueSpot) (field : List ℕ) (table : Members) (name : List ℕ) → label_field at field table ≡ Ok name → IsLabel name
+unfolding label_field
+label_made at field table name e0 = after_ok (text_field (faults_at at) field table) _ name e0 (λ text _ e1. named_made at text name e1)
+
+name_made : (table_at : CataloguePlace) (text name : List ℕ) → key_name table_at text ≡ Ok name → IsLabel name × (name ≢ codes "otel.metric.overflow")
 unfolding key_name
-name_made table_at table name e0 =
+name_made table_at text name e0 =
     let at = field_at table_at fields.Name in
-    after_ok (only_key_fields table_at table) _ name e0 (λ _ _ e1.
-    after_ok (label_field at table) _ name e1 (λ text made e2.
-    let (other, e3) = require_ok (not (bytes_eq text (codes "otel.metric.overflow"))) (At ReservedKey at) _ name e2 in
-    let apart = texts_apart text (codes "otel.metric.overflow") (not-true (bytes_eq text (codes "otel.metric.overflow")) other) in
-    (label_made at table name (made ∙ e3), subst (λ (t : List ℕ). t ≢ codes "otel.metric.overflow") (ok_is text name (Ok text) refl e3) apart)))
+    after_ok (label_of at text) _ name e0 (λ label made e1.
+    let (other, e2) = require_ok (not (bytes_eq label (codes "otel.metric.overflow"))) (At ReservedKey at) _ name e1 in
+    let apart = texts_apart label (codes "otel.metric.overflow") (not-true (bytes_eq label (codes "otel.metric.overflow")) other) in
+    (named_made at text name (made ∙ e2), subst (λ (t : List ℕ). t ≢ codes "otel.metric.overflow") (ok_is label name (Ok label) refl e2) apart))
 
 value_made : (at : CatalogueSpot) (d : Data) (value : AttrValue) → value_at at d ≡ Ok value → IsSoundValue value
 value_made at (string text) value e0 =
@@ -106,7 +108,11 @@ some_made at table values e0 =
     let some : 0 < length ds = grind (arith, nat_tests) in
     (omega arith, made_sound 1000 IsSoundValue (λ _ _. Unit {0}) (next_value at) (value_next at) ds values e3 (list_few (faults_at at) 1000 d ds listed))))
 
-values_made : (at : CatalogueSpot) (table : Members) (values : List AttrValue) → values_field at table ≡ Ok values → (0 < length values) × IsSoundList 1000 IsSoundValue (λ value other. value ≢ other) values
+-- distinct values of which each is sound, and there is one
+abbrev AreValues : List AttrValue → Type 0
+AreValues values = (0 < length values) × IsSoundList 1000 IsSoundValue (λ value other. value ≢ other) values
+
+values_made : (at : CatalogueSpot) (table : Members) (values : List AttrValue) → values_field at table ≡ Ok values → AreValues values
 unfolding values_field
 values_made at table values e0 =
     after_ok (some_values at table) _ values e0 (λ vs made e1.
@@ -116,19 +122,58 @@ values_made at table values e0 =
     let differ = differ_after [] vs (λ i j d before within. absurd (omega arith)) (not-true (has_repeat vs) distinct) in
     (some, record { few = sound.few; each = sound.each; apart = subst (AllPairs (λ (v w : AttrValue). v ≢ w)) same differ }))
 
+-- one more, which is none of them
+value_more : (values : List AttrValue) (value : AttrValue) → length values < 1000 → IsSoundValue value → is_some (place values value) ≡ false → AreValues values → AreValues (values ++ value ∷ [])
+value_more values value few one fresh (some, sound) =
+    let long = length-append values (value ∷ []) in
+    let before : AreSound IsSoundValue (λ v w. v ≢ w) values = record { each = sound.each; apart = sound.apart } in
+    let next : IsNext IsSoundValue (λ v w. v ≢ w) values value = record { sound = one; apart = All-from_recursion (λ other. other ≢ value) values (no_place value 0 values fresh) } in
+    let all = sound_push IsSoundValue (λ v w. v ≢ w) values value before next in
+    (omega arith, record { few = omega arith; each = all.each; apart = all.apart })
+
+other_made : (at : CatalogueSpot) (values : List AttrValue) (other : Option (List ℕ)) (all : List AttrValue) → values_with at values other ≡ Ok all → AreValues values → AreValues all
+other_made at values None all e sound = subst AreValues (ok_is values all (Ok values) refl e) sound
+other_made at values (Some other) all e0 sound =
+    after_ok (short_text (faults_at at) other) _ all e0 (λ short made e1.
+    let is_among = is_some (place values (Text short)) in
+    let (fits, e2) = require_ok (is_among || nat_lt (length values) 1000) (At TooMany at) _ all e1 in
+    let made_of = cond is_among values (values ++ Text short ∷ []) in
+    subst AreValues (ok_is made_of all (Ok made_of) refl e2) (by short (short_made at other short made).1 is_among refl fits))
+  where
+    by : (short : List ℕ) → IsFreeText short → (b : Bool) → is_some (place values (Text short)) ≡ b → (b || nat_lt (length values) 1000) ≡ true → AreValues (cond b values (values ++ Text short ∷ []))
+    by short own true among fits = sound
+    by short own false fresh fits = let few : length values < 1000 = grind (arith, nat_tests) in value_more values (Text short) few own fresh sound
+
+-- what a key of a name declares
+pub key_is_sound : (at : CataloguePlace) (text : List ℕ) (table : Members) (key : Key) → key_named at text table ≡ Ok key → IsSoundKey key
+unfolding key_named
+key_is_sound at text table key e0 =
+    let other_at = field_at at fields.Other in
+    after_ok (key_name at text) _ key e0 (λ name named e1.
+    after_ok (values_field (field_at at fields.Values) table) _ key e1 (λ values valued e2.
+    after_ok (optional_text (faults_at other_at) (codes "other") table) _ key e2 (λ other _ e3.
+    after_ok (values_with other_at values other) _ key e3 (λ all more e4.
+    after_ok (optional_field (field_at at fields.Optional) table) _ key e4 (λ optional _ e5.
+    let (label, own) = name_made at text name named in
+    let (some, distinct) = other_made other_at values other all more (values_made (field_at at fields.Values) table values valued) in
+    let made : Key = record { name = name; values = all; optional = optional } in
+    let sound : IsSoundKey made = record { name = label; not_reserved = own; some = some; values = distinct } in
+    subst IsSoundKey (ok_is made key (Ok made) refl e5) sound)))))
+
+-- a key whose name no earlier one has
+pub next_key : (before : List Key) (key : Key) → IsSoundKey key → not (list_any (is_key key.name) before) ≡ true → IsNext IsSoundKey (λ other k. other.name ≢ k.name) before key
+next_key before key sound new = record {
+  sound = sound;
+  apart = apart_by (λ o k. o.name ≢ k.name) (is_key key.name) before key (λ o h. texts_apart o.name key.name h) new;
+}
+
 pub key_made : (instrument : ℕ) (before : List Key) (table : Members) (key : Key) → key_of instrument before table ≡ Ok key → IsNext IsSoundKey (λ other k. other.name ≢ k.name) before key
 unfolding key_of
 key_made instrument before table key e0 =
     let at = places.Key instrument (length before) in
-    after_ok (key_name at table) _ key e0 (λ name named e1.
-    after_ok (values_field (field_at at fields.Values) table) _ key e1 (λ values valued e2.
-    after_ok (optional_field (field_at at fields.Optional) table) _ key e2 (λ optional _ e3.
-    let (new, e4) = require_ok (not (list_any (is_key name) before)) (At DuplicateKey (field_at at fields.Name)) _ key e3 in
-    let (label, other) = name_made at table name named in
-    let (some, distinct) = values_made (field_at at fields.Values) table values valued in
-    let made : Key = record { name = name; values = values; optional = optional } in
-    let next : IsNext IsSoundKey (λ o k. o.name ≢ k.name) before made = record {
-      sound = record { name = label; not_reserved = other; some = some; values = distinct };
-      apart = apart_by (λ o k. o.name ≢ k.name) (is_key name) before made (λ o h. texts_apart o.name name h) new;
-    } in
-    subst (IsNext IsSoundKey (λ o k. o.name ≢ k.name) before) (ok_is made key (Ok made) refl e4) next)))
+    let name_at = field_at at fields.Name in
+    after_ok (only_key_fields at table) _ key e0 (λ _ _ e1.
+    after_ok (text_field (faults_at name_at) (codes "name") table) _ key e1 (λ text _ e2.
+    after_ok (key_named at text table) _ key e2 (λ made named e3.
+    let (new, e4) = require_ok (not (list_any (is_key made.name) before)) (At DuplicateKey name_at) _ key e3 in
+    subst (IsNext IsSoundKey (λ o k. o.name ≢ k.name) before) (ok_is made key (Ok made) refl e4) (next_key before made (key_is_sound at text table made named) new))))

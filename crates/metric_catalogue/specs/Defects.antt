@@ -20,6 +20,8 @@ use Rattle.metric_catalogue.specs.declared.fault.CatalogueDefect.TheVariants.{
   TooMany,
   BadCombination,
   DuplicateCombination,
+  UnknownKey,
+  AmbiguousInstrument,
 }
 
 -- # printed defect (profile)
@@ -43,3 +45,5 @@ defect_text DuplicateBudget = codes "16 DuplicateBudget"
 defect_text TooMany = codes "17 TooMany"
 defect_text BadCombination = codes "19 BadCombination"
 defect_text DuplicateCombination = codes "20 DuplicateCombination"
+defect_text UnknownKey = codes "21 UnknownKey"
+defect_text AmbiguousInstrument = codes "22 AmbiguousInstrument"

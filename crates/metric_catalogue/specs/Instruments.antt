@@ -8,7 +8,7 @@ use Rattle.metric_base.specs.Steps.{◌>>=◌, require, require_some, with_fault
 use Rattle.metric_names.specs.Names.{folded, name_of}
 use Rattle.metric_names.specs.Units.{unit_of}
 use Rattle.metric_table.specs.Fields.{only, field, text_field, optional_text, list_of, integer_of}
-use Rattle.metric_table.specs.Fields.{integers_of, tables_field}
+use Rattle.metric_table.specs.Fields.{integers_of}
 use Rattle.metric_contents.specs.declared.contents.Instrument.{Instrument}
 use Rattle.metric_contents.specs.declared.contents.Key.{Key}
 use Rattle.metric_contents.specs.declared.contents.Kind.{Kind}
@@ -33,8 +33,9 @@ use Rattle.metric_catalogue.specs.Allowed.{allowed_field, allowed_of}
 use Rattle.metric_catalogue.specs.Faults.{faults_at, field_at, pair_faults_at}
 use Rattle.metric_contents.specs.Kinds.{kind_named, is_monotonic}
 use Rattle.metric_catalogue.specs.Recorders.{amount_from}
+use Rattle.metric_catalogue.specs.SharedKeys.{entries_field, key_entry}
+use Rattle.metric_catalogue.specs.declared.shared_keys.SharedKey.{SharedKey}
 use Rattle.metric_catalogue.specs.Texts.{free_text}
-use Rattle.metric_catalogue.specs.Keys.{key_of}
 
 -- the fields of an instrument's table in this format
 unfoldable pub instrument_fields : ℕ → List (List ℕ)
@@ -146,26 +147,29 @@ spare_field at table = spare_within at (get_member (codes "spare") table)
 
 -- what limits the recordings of the instrument of a number: its keys, the combinations of their values that it
 -- allows where it lists them, and its spare budget, unless its name is taken
-unfoldable pub limits_field : ℕ → Bool → Members → Result Limits CatalogueFault
-limits_field number is_taken table = do
+unfoldable pub limits_field : ℕ → List SharedKey → ℕ → Bool → Members
+    → Result Limits CatalogueFault
+limits_field format shared number is_taken table = do
   let at = place.Instrument number
-  tables ← tables_field (faults_at (field_at at fields.Key)) 8 (codes "key") table
+  entries ← entries_field format (field_at at fields.Key) table
   rows ← allowed_field (field_at at fields.Allowed) table
   spare ← spare_field (field_at at fields.Spare) table
   _ ← require (not is_taken) (At DuplicateInstrument (field_at at fields.Name))
-  keys ← each (key_of number) [] tables
+  keys ← each (key_entry shared number) [] entries
   allowed ← allowed_of (field_at at fields.Allowed) keys rows
   Ok (record { keys = keys; allowed = allowed; spare = spare })
 
 -- # instruments of a meter (API, Instrument)
 -- One table after another, each with those before it in sight.
-unfoldable pub instrument_of : ℕ → ℕ → List Instrument → Members → Result Instrument CatalogueFault
-instrument_of format meter before table = do
+unfoldable pub instrument_of : ℕ → List SharedKey → ℕ → List Instrument → Members
+    → Result Instrument CatalogueFault
+instrument_of format shared meter before table = do
   let at = place.Instrument (length before)
   head ← head_of format at table
   range ← range_field at head.kind table
   advice ← advice_field at table
-  limits ← limits_field (length before) (list_any (is_instrument meter head.name) before) table
+  limits ← limits_field format shared (length before)
+      (list_any (is_instrument meter head.name) before) table
   Ok (record {
     meter = meter;
     name = head.name;

@@ -3,10 +3,12 @@ pub mod FaultPlaces
 pub mod Defects
 pub mod Texts
 pub mod Keys
+pub mod SharedKeys
 pub mod Allowed
 pub mod Instruments
 pub mod Meters
 pub mod Recorders
+pub mod Seats
 pub mod Catalogues
 pub mod Sound
 pub mod FieldWords

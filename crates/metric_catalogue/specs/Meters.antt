@@ -8,6 +8,7 @@ use Rattle.metric_base.specs.Steps.{◌>>=◌, require, each}
 use Rattle.metric_table.specs.Fields.{only, tables_field}
 use Rattle.metric_contents.specs.declared.contents.Meter.{Meter}
 use Rattle.metric_catalogue.specs.declared.meters.Metered.{Metered}
+use Rattle.metric_catalogue.specs.declared.shared_keys.SharedKey.{SharedKey}
 use Rattle.metric_catalogue.specs.declared.fault.CatalogueFault.{CatalogueFault}
 use Rattle.metric_catalogue.specs.declared.fault.CatalogueDefect.TheVariants.{DuplicateMeter}
 use Rattle.metric_catalogue.specs.declared.fault.CatalogueFault.TheVariants.{At}
@@ -42,13 +43,13 @@ is_meter meter other =
     && (bytes_eq other.version meter.version && bytes_eq other.schema_url meter.schema_url)
 
 -- one more meter with its instruments in a file of this format, which has at most 512
-unfoldable pub with_meter : ℕ → Metered → Members → Result Metered CatalogueFault
-with_meter format before table = do
+unfoldable pub with_meter : ℕ → List SharedKey → Metered → Members → Result Metered CatalogueFault
+with_meter format shared before table = do
   let at = place.Meter (length before.meters)
   meter ← meter_of at table
   tables ← tables_field (faults_at (field_at at fields.Instrument))
       (512 - length before.instruments) (codes "instrument") table
   _ ← require (not (list_any (is_meter meter) before.meters))
       (At DuplicateMeter (field_at at fields.Name))
-  instruments ← each (instrument_of format (length before.meters)) before.instruments tables
+  instruments ← each (instrument_of format shared (length before.meters)) before.instruments tables
   Ok (record { meters = before.meters ++ meter ∷ []; instruments = instruments })

@@ -79,7 +79,7 @@ is_recorder name recorder = bytes_eq recorder.name name
 unfoldable pub recorder_name : CataloguePlace → Members → Result (List ℕ) CatalogueFault
 recorder_name at table = do
   _ ← only (faults_at (field_at at fields.Unknown)) recorder_fields table
-  label_field (field_at at fields.Name) table
+  label_field (field_at at fields.Name) (codes "name") table
 
 -- the budgets of the recorder of a number, unless its name is taken
 unfoldable pub budgets_field : ℕ → ℕ → Bool → Members → Result (List Budget) CatalogueFault

@@ -1,30 +1,39 @@
 //! Reading a catalogue from TOML.
-ghost use Rattle.std.specs.Prelude.{◌≡◌, ◌≤◌, length, map, IfOk, vec_capacity};
-ghost use Rattle.toml.specs.View.{table_view};
+ghost use Rattle.std.specs.Prelude.{◌≡◌, ◌≤◌, Ok, false, length, map, string_bytes, IfOk, IfSome, vec_capacity};
+ghost use Rattle.std.specs.Option.{option_map};
+ghost use Rattle.toml.specs.View.{table_view, view};
 ghost use Rattle.metric_base.specs.Steps.{Gives, GivesBy, in_turn};
 ghost use Rattle.metric_contents.specs.Attributes.{given_by, given_by_owned};
 ghost use Rattle.metric_contents.specs.Budgets.{budget_at, spare_at};
 ghost use Rattle.metric_contents.specs.Encoding.{encode_of};
 ghost use Rattle.metric_catalogue.specs.Meters.{with_meter};
 ghost use Rattle.metric_catalogue.specs.Sound.{IsSound};
-ghost use Rattle.metric_catalogue.specs.Catalogues.{catalogue_of, contents_declared, contents_of, document_of, format_of_top, nothing_metered};
+ghost use Rattle.metric_catalogue.specs.Catalogues.{catalogue_of, contents_declared, contents_of, declared_format, document_of, format_of_top, is_shared, is_three, latest_format, nothing_metered, opened_of, recorders_declared};
 
 use crate::fault::{CatalogueFault, CatalogueField, CataloguePlace};
+use crate::full::{fits, printed};
+use crate::known::top_names;
 use crate::meters::{Metered, add_meters};
+use crate::named::named_of;
 use crate::recorders::recorders_of;
+use crate::same::are_same_contents;
+use crate::seats::seats_declared;
+use crate::shared_keys::{SharedKey, shared_keys};
 use crate::texts::{faults_at, unknown_at};
 use metric_base::{Few, Items};
 use metric_contents::{
     Attr, Contents, Instrument, Meter, OwnedAttr, Recorder, Refusal, SetKey, encode_of,
     encode_with_room,
 };
-use metric_table::{format_up_to, only, tables_field};
-use std::alloc::Global;
+use metric_table::{format_up_to, member, only, tables_field};
+use std::alloc::{AllocError, Global};
 use std::marker::Model;
-use toml::Table;
+use toml::{Table, Value};
 
-// The fields of the top table.
+// The fields of the top table, and those of format 3.
 pub(crate) const TOP_FIELDS: [&str; 3] = ["format", "meter", "recorder"];
+
+pub(crate) const SHARED_TOP_FIELDS: [&str; 4] = ["format", "key", "meter", "recorder"];
 
 /// The instruments of a program with their meters and keys, and its recorders with their budgets.
 /// Instruments and recorders are numbered from 0 in the order of the file.
@@ -54,11 +63,40 @@ impl Catalogue {
         ensures { Gives CatalogueFault.Memory result (catalogue_of text.now) }
     {
         let table = document(alloc, text)?;
-        let contents = contents_of(alloc, &table)?;
+        let contents = contents_of(alloc, &table, false)?;
         Ok(Catalogue { contents })
     }
 
-    /// The format of the file: 1, or 2, in which an instrument may list its combinations.
+    /// The catalogue that a text of format 1, 2 or 3 is, or its first fault. What `read` answers of a text that is not of
+    /// format 3; of one that is, the same contents that a file of format 2 may have, with the faults of its own fields:
+    /// the top table first, then each key that is declared once, each meter as `read` has it, and each recorder.
+    pub fn open(alloc: Global, text: &str) -> Result<Catalogue, CatalogueFault>
+        ensures opened { Gives CatalogueFault.Memory result (opened_of text.now) }
+        ensures read { is_shared text.now ≡ false
+            → Gives CatalogueFault.Memory result (catalogue_of text.now) }
+    {
+        opened(alloc, text)
+    }
+
+    /// The text of a file of format 1 or 2 that declares the same, or nothing where it would be too large: where the
+    /// values of all keys, each time that an instrument has one, come to more than 8,388,608 bytes, with 16 more for
+    /// each.
+    pub fn in_full(&self, alloc: Global) -> Result<Option<String>, AllocError>
+        ensures { IfOk result (λ full. IfSome full (λ text.
+            catalogue_of (string_bytes text) ≡ Ok self.now)) }
+    {
+        if !fits(&self.contents) {
+            return Ok(None);
+        }
+        let text = printed(alloc, &self.contents)?;
+        match Catalogue::read(alloc, text.as_str()) {
+            Ok(read) => Ok(if_same(text, &read, self)),
+            Err(CatalogueFault::Memory) => Err(AllocError),
+            Err(_) => Ok(None),
+        }
+    }
+
+    /// The format of the file: 1, or 2, in which an instrument may list its combinations; 2 also for one of format 3.
     pub fn format(&self) -> u8
         ensures format { result ≡ self.now.format }
         ensures sound { IsSound self.now }
@@ -150,6 +188,28 @@ impl Catalogue {
     }
 }
 
+#[tactic(auto, unfolding(crate::specs::Catalogues::opened_of))]
+fn opened(alloc: Global, text: &str) -> Result<Catalogue, CatalogueFault>
+    ensures { Gives CatalogueFault.Memory result (opened_of text.now) }
+{
+    let table = document(alloc, text)?;
+    let is_shared = is_three(member(&table, "format"));
+    let contents = contents_of(alloc, &table, is_shared)?;
+    Ok(Catalogue { contents })
+}
+
+// The text that is read as a catalogue, where it declares the same as another.
+fn if_same(text: String, read: &Catalogue, other: &Catalogue) -> Option<String>
+    requires { catalogue_of (string_bytes text) ≡ Ok read.now }
+    ensures { IfSome result (λ text. catalogue_of (string_bytes text) ≡ Ok other.now) }
+{
+    if are_same_contents(&read.contents, &other.contents) {
+        Some(text)
+    } else {
+        None
+    }
+}
+
 // The table that a text in TOML is.
 fn document(alloc: Global, text: &str) -> Result<Table, CatalogueFault>
     ensures { GivesBy table_view CatalogueFault.Memory result (document_of text.now) }
@@ -166,46 +226,91 @@ fn document(alloc: Global, text: &str) -> Result<Table, CatalogueFault>
     }
 }
 
+// The contents of a catalogue's table, of format 1 or 2, or 3 where that is known.
 #[tactic(auto, unfolding(crate::specs::Catalogues::contents_of))]
-fn contents_of(alloc: Global, table: &Table) -> Result<Contents, CatalogueFault>
-    ensures { Gives CatalogueFault.Memory result (contents_of (table_view table.now)) }
+fn contents_of(alloc: Global, table: &Table, is_shared: bool) -> Result<Contents, CatalogueFault>
+    ensures { Gives CatalogueFault.Memory result (contents_of is_shared (table_view table.now)) }
 {
-    let format = format_of_top(table)?;
+    let format = format_of_top(table, is_shared)?;
+    let of_keys = faults_at(CataloguePlace::Top.field(CatalogueField::Key));
+    let keys = tables_field(alloc, table, "key", 512, &of_keys)?;
     let of_meters = faults_at(CataloguePlace::Top.field(CatalogueField::Meter));
     let meters = tables_field(alloc, table, "meter", 64, &of_meters)?;
     let of_recorders = faults_at(CataloguePlace::Top.field(CatalogueField::Recorder));
     let recorders = tables_field(alloc, table, "recorder", 64, &of_recorders)?;
-    contents_declared(alloc, format, meters.as_slice(), recorders.as_slice())
+    contents_declared(
+        alloc,
+        format,
+        keys.as_slice(),
+        meters.as_slice(),
+        recorders.as_slice(),
+    )
 }
 
-// The contents that the tables of the meters and those of the recorders declare in this format.
+// The contents that the tables of keys, meters and recorders declare in this format.
 #[tactic(auto, unfolding(crate::specs::Catalogues::contents_declared))]
 fn contents_declared(
     alloc: Global,
     format: u8,
+    keys: &[&Table],
     meters: &[&Table],
     recorders: &[&Table],
 ) -> Result<Contents, CatalogueFault>
+    requires keys { length keys.now ≤ 512 }
     requires meters { length meters.now ≤ 64 }
     requires recorders { length recorders.now ≤ 64 }
     ensures { Gives CatalogueFault.Memory result (contents_declared format
-        (map (λ t. table_view t.now) meters.now) (map (λ t. table_view t.now) recorders.now)) }
+        (map (λ t. table_view t.now) keys.now) (map (λ t. table_view t.now) meters.now)
+        (map (λ t. table_view t.now) recorders.now)) }
 {
-    let metered = metered_of(alloc, meters, format)?;
-    let count = metered.instruments.len() as u32;
-    let recorders = recorders_of(alloc, recorders, count)?;
+    let shared = shared_keys(alloc, keys)?;
+    let metered = metered_of(alloc, meters, format, shared.as_slice())?;
+    let recorders = recorders_declared(alloc, recorders, format, &metered)?;
     Ok(Contents {
-        format,
+        format: declared_format(format),
         meters: Few::from_items(metered.meters),
         instruments: Few::from_items(metered.instruments),
         recorders: Few::from_items(recorders),
     })
 }
 
-fn metered_of(alloc: Global, tables: &[&Table], format: u8) -> Result<Metered, CatalogueFault>
+fn declared_format(format: u8) -> u8
+    ensures { result ≡ declared_format format }
+{
+    if format == 1 { 1 } else { 2 }
+}
+
+// The recorders beside these instruments.
+fn recorders_declared(
+    alloc: Global,
+    tables: &[&Table],
+    format: u8,
+    metered: &Metered,
+) -> Result<Items<Recorder>, CatalogueFault>
+    requires tables { length tables.now ≤ 64 }
+    requires instruments { length metered.now.instruments ≤ 512 }
+    ensures exact { Gives CatalogueFault.Memory result
+        (recorders_declared format metered.now (map (λ t. table_view t.now) tables.now)) }
+    ensures few { IfOk result (λ recorders. length recorders ≤ 64) }
+{
+    let instruments = metered.instruments.as_slice();
+    if format == 3 {
+        let named = named_of(alloc, metered.meters.as_slice(), instruments)?;
+        seats_declared(alloc, tables, named.as_slice())
+    } else {
+        recorders_of(alloc, tables, instruments.len() as u32)
+    }
+}
+
+fn metered_of(
+    alloc: Global,
+    tables: &[&Table],
+    format: u8,
+    shared: &[SharedKey],
+) -> Result<Metered, CatalogueFault>
     requires { length tables.now ≤ 64 }
     ensures exact { Gives CatalogueFault.Memory result
-        (in_turn (with_meter format) nothing_metered (map (λ t. table_view t.now) tables.now)) }
+        (in_turn (with_meter format shared.now) nothing_metered (map (λ t. table_view t.now) tables.now)) }
     ensures meters { IfOk result (λ metered. length metered.meters ≤ 64) }
     ensures instruments { IfOk result (λ metered. length metered.instruments ≤ 512) }
 {
@@ -213,16 +318,33 @@ fn metered_of(alloc: Global, tables: &[&Table], format: u8) -> Result<Metered, C
         meters: Items::new(alloc),
         instruments: Items::new(alloc),
     };
-    add_meters(alloc, &mut metered, tables, format)?;
+    add_meters(alloc, &mut metered, tables, format, shared)?;
     Ok(metered)
 }
 
-#[tactic(auto, unfolding(crate::specs::Catalogues::format_of_top), using(crate::proofs::FieldNames::field_names))]
-fn format_of_top(table: &Table) -> Result<u8, CatalogueFault>
-    ensures { result ≡ format_of_top (table_view table.now) }
+// The number of the format, of a top table with no other fields.
+#[tactic(auto, unfolding(crate::specs::Catalogues::format_of_top))]
+fn format_of_top(table: &Table, is_shared: bool) -> Result<u8, CatalogueFault>
+    ensures { result ≡ format_of_top is_shared (table_view table.now) }
 {
     let unknown = unknown_at(CataloguePlace::Top);
-    only(table, &TOP_FIELDS, &unknown)?;
+    only(table, top_names(is_shared), &unknown)?;
     let faults = faults_at(CataloguePlace::Top.field(CatalogueField::Format));
-    format_up_to(table, 2, &faults)
+    format_up_to(table, latest_format(is_shared), &faults)
+}
+
+fn latest_format(is_shared: bool) -> u8
+    ensures { result ≡ latest_format is_shared }
+{
+    if is_shared { 3 } else { 2 }
+}
+
+/// Whether what stands in the field `format` is 3.
+pub fn is_three(format: Option<&Value>) -> bool
+    ensures { result ≡ is_three (option_map (λ v. view v.now) format.entry) }
+{
+    match format {
+        Some(Value::Integer(number)) => *number == 3,
+        _ => false,
+    }
 }

@@ -18,6 +18,8 @@ pub enum CataloguePlace {
     Instrument(u32),
     /// Of the instrument of the first number, the key of the second.
     Key(u32, u32),
+    /// The key of this number among those that instruments name by their ids.
+    SharedKey(u32),
     /// The recorder of this number.
     Recorder(u32),
     /// Of the recorder of the first number, the budget of the second.
@@ -31,6 +33,8 @@ pub enum CatalogueField {
     Unknown,
     /// `format` at the top.
     Format,
+    /// `id` of a key.
+    Id,
     /// `meter` at the top.
     Meter,
     /// `recorder` at the top.
@@ -53,7 +57,7 @@ pub enum CatalogueField {
     Range,
     /// `boundaries` of an instrument.
     Boundaries,
-    /// `key` of an instrument.
+    /// `key` of an instrument, or at the top.
     Key,
     /// `allowed` of an instrument.
     Allowed,
@@ -61,8 +65,12 @@ pub enum CatalogueField {
     Spare,
     /// `values` of a key.
     Values,
+    /// `other` of a key.
+    Other,
     /// `optional` of a key.
     Optional,
+    /// `count` of a recorder.
+    Count,
     /// `budget` of a recorder.
     Budget,
     /// `amount` of a budget.
@@ -76,7 +84,7 @@ pub struct CatalogueSpot {
     pub place: CataloguePlace,
     /// The first of its fields that is wrong.
     pub field: CatalogueField,
-    /// The number of the value or the row in the field's list, from 0.
+    /// The number of the entry in the field's list, or among the names of its table in their order, from 0.
     pub entry: Option<u32>,
 }
 
@@ -134,13 +142,14 @@ pub enum CatalogueDefect {
     DuplicateMeter,
     /// An earlier instrument of the meter has the same name without ASCII case.
     DuplicateInstrument,
-    /// An earlier key of the instrument has the same name.
+    /// An earlier key of the instrument has the same name, or an earlier key the same id.
     DuplicateKey,
     /// A value stands twice in a key's list.
     DuplicateValue,
     /// A key has the name of the attribute that marks the overflow point.
     ReservedKey,
-    /// A range is empty, a counter's or histogram's range has negative values, or an amount is negative.
+    /// A range is empty, a counter's or histogram's range has negative values, an amount is negative, or a count is not
+    /// from 1 to 64.
     BadRange,
     /// Boundaries do not rise strictly.
     BadBoundaries,
@@ -156,6 +165,10 @@ pub enum CatalogueDefect {
     BadCombination,
     /// A row of allowed combinations stands twice.
     DuplicateCombination,
+    /// No key has the id that an instrument names.
+    UnknownKey,
+    /// Instruments of several meters have the name that a budget has.
+    AmbiguousInstrument,
 }
 
 /// Why a text is no catalogue.
@@ -209,6 +222,8 @@ impl fmt::Display for CatalogueDefect {
             CatalogueDefect::TooMany => "17 TooMany",
             CatalogueDefect::BadCombination => "19 BadCombination",
             CatalogueDefect::DuplicateCombination => "20 DuplicateCombination",
+            CatalogueDefect::UnknownKey => "21 UnknownKey",
+            CatalogueDefect::AmbiguousInstrument => "22 AmbiguousInstrument",
         })
     }
 }
@@ -226,6 +241,7 @@ impl fmt::Display for CataloguePlace {
             CataloguePlace::Instrument(number) | CataloguePlace::Key(number, _) => {
                 write!(f, "instrument {number}")
             }
+            CataloguePlace::SharedKey(number) => write!(f, "key {number}"),
             CataloguePlace::Recorder(number) | CataloguePlace::Budget(number, _) => {
                 write!(f, "recorder {number}")
             }

@@ -11,17 +11,16 @@ use crate::allowed::{allowed_field, allowed_of};
 use crate::fault::{
     CatalogueDefect, CatalogueFault, CatalogueField, CataloguePlace, CatalogueSpot,
 };
-use crate::keys::keys_of;
 use crate::known::instrument_names;
 use crate::recorders::amount_from;
+use crate::shared_keys::{SharedKey, entries_field, keys_of};
 use crate::texts::{faults_at, free_text, pair_faults_at, unknown_at};
 use metric_base::{Boundaries, Few, Items, Shared, Text, is_rising};
 use metric_combinations::Combinations;
 use metric_contents::{Instrument, Key, Kind};
 use metric_names::{Name, NameFault, Unit, UnitFault};
 use metric_table::{
-    integer_of, integers_of, list_of, member, only, optional_text, required, tables_field,
-    text_field,
+    integer_of, integers_of, list_of, member, only, optional_text, required, text_field,
 };
 use std::alloc::Global;
 use toml::{Table, Value};
@@ -123,17 +122,25 @@ pub(crate) fn add_instruments(
     alloc: Global,
     tables: &[&Table],
     format: u8,
+    shared: &[SharedKey],
     meter: u32,
     instruments: &mut Items<Instrument>,
 ) -> Result<(), CatalogueFault>
     requires { length instruments.old + length tables.now ≤ 512 }
     ensures exact { Advances CatalogueFault.Memory result instruments.new
-        (each (instrument_of format meter) instruments.old
+        (each (instrument_of format shared.now meter) instruments.old
         (map (λ t. table_view t.now) tables.now)) }
     ensures few { length instruments.new ≤ length instruments.old + length tables.now }
 {
     for table in tables {
-        let instrument = instrument_of(alloc, table, format, meter, instruments.as_slice())?;
+        let instrument = instrument_of(
+            alloc,
+            table,
+            format,
+            shared,
+            meter,
+            instruments.as_slice(),
+        )?;
         instruments.push(instrument)?;
     }
     Ok(())
@@ -143,19 +150,21 @@ fn instrument_of(
     alloc: Global,
     table: &Table,
     format: u8,
+    shared: &[SharedKey],
     meter: u32,
     before: &[Instrument],
 ) -> Result<Instrument, CatalogueFault>
     requires { length before.now < 512 }
     ensures { Gives CatalogueFault.Memory result
-        (instrument_of format meter before.now (table_view table.now)) }
+        (instrument_of format shared.now meter before.now (table_view table.now)) }
 {
     let at = CataloguePlace::Instrument(before.len() as u32);
     let head = head_of(alloc, table, format, at)?;
     let range = range_field(table, head.kind, at)?;
     let advice = advice_field(alloc, table, at)?;
     let is_taken = has_instrument(before, meter, head.name.get());
-    let limits = limits_field(alloc, table, before.len() as u32, is_taken)?;
+    let number = before.len() as u32;
+    let limits = limits_field(alloc, table, format, shared, number, is_taken)?;
     Ok(head.instrument(meter, range, advice, limits))
 }
 
@@ -165,27 +174,23 @@ fn instrument_of(
 fn limits_field(
     alloc: Global,
     table: &Table,
+    format: u8,
+    shared: &[SharedKey],
     number: u32,
     is_taken: bool,
 ) -> Result<Limits, CatalogueFault>
     ensures { Gives CatalogueFault.Memory result
-        (limits_field number is_taken (table_view table.now)) }
+        (limits_field format shared.now number is_taken (table_view table.now)) }
 {
     let at = CataloguePlace::Instrument(number);
-    let tables = tables_field(
-        alloc,
-        table,
-        "key",
-        8,
-        &faults_at(at.field(CatalogueField::Key)),
-    )?;
+    let entries = entries_field(table, format, at.field(CatalogueField::Key))?;
     let rows = allowed_field(table, at.field(CatalogueField::Allowed))?;
     let spare = spare_field(table, at.field(CatalogueField::Spare))?;
     if is_taken {
         let name = at.field(CatalogueField::Name);
         return Err(CatalogueFault::At(CatalogueDefect::DuplicateInstrument, name));
     }
-    let keys = keys_of(alloc, tables.as_slice(), number)?;
+    let keys = keys_of(alloc, entries, shared, number)?;
     let allowed = allowed_of(
         alloc,
         rows,

@@ -1,46 +1,29 @@
 //! The keys of an instrument.
-ghost use Rattle.std.specs.Prelude.{◌≡◌, ◌≤◌, ◌<◌, ◌==◌, [], not, length, map, IfOk};
+ghost use Rattle.std.specs.Prelude.{◌≡◌, ◌≤◌, ◌<◌, ◌==◌, [], ◌∷◌, ◌++◌, length, map, IfOk};
 ghost use Rattle.std.specs.List.{list_any};
+ghost use Rattle.std.specs.Option.{option_map};
 ghost use Rattle.toml.specs.View.{table_view, view};
 ghost use Rattle.metric_base.specs.Steps.{Gives, each};
-ghost use Rattle.metric_catalogue.specs.Keys.{key_name, key_of, next_value, only_key_fields, optional_field, some_values, value_at, values_field};
+ghost use Rattle.metric_table.specs.Fields.{now_of};
+ghost use Rattle.metric_catalogue.specs.Keys.{key_name, key_named, key_of, next_value, only_key_fields, optional_field, some_values, value_at, values_field, values_with};
 ghost use Rattle.metric_contents.specs.KeyNames.{is_key};
 
 use crate::fault::{
     CatalogueDefect, CatalogueFault, CatalogueField, CataloguePlace, CatalogueSpot,
 };
-use crate::texts::{copy_short, faults_at, label_field, unknown_at};
-use metric_base::{Items, Text};
+use crate::texts::{copy_short, faults_at, label_of, unknown_at};
+use metric_base::{Items, Text, copy_all};
 use metric_contents::{Key, Values};
 use metric_names::AttrValue;
-use metric_table::{flag_or, list_of, only, required};
-use std::alloc::Global;
+use metric_table::{flag_or, list_of, only, optional_text, required, text_field};
+use std::alloc::{AllocError, Global};
 use toml::{Table, Value};
 
 // The fields of a key's table.
 pub(crate) const KEY_FIELDS: [&str; 3] = ["name", "values", "optional"];
 
-// The keys of an instrument.
-pub(crate) fn keys_of(
-    alloc: Global,
-    tables: &[&Table],
-    instrument: u32,
-) -> Result<Items<Key>, CatalogueFault>
-    requires { length tables.now ≤ 8 }
-    ensures exact { Gives CatalogueFault.Memory result
-        (each (key_of instrument) [] (map (λ t. table_view t.now) tables.now)) }
-    ensures few { IfOk result (λ keys. length keys ≤ length tables.now) }
-{
-    let mut keys = Items::new(alloc);
-    for table in tables {
-        let key = key_of(alloc, table, instrument, keys.as_slice())?;
-        keys.push(key)?;
-    }
-    Ok(keys)
-}
-
 #[tactic(auto, unfolding(crate::specs::Keys::key_of))]
-fn key_of(
+pub(crate) fn key_of(
     alloc: Global,
     table: &Table,
     instrument: u32,
@@ -51,13 +34,32 @@ fn key_of(
         (key_of instrument before.now (table_view table.now)) }
 {
     let at = CataloguePlace::Key(instrument, before.len() as u32);
-    let name = key_name(alloc, table, at)?;
-    let values = values_field(alloc, table, at.field(CatalogueField::Values))?;
-    let optional = optional_field(table, at.field(CatalogueField::Optional))?;
-    if has_key(before, &name) {
-        let name = at.field(CatalogueField::Name);
-        return Err(CatalogueFault::At(CatalogueDefect::DuplicateKey, name));
+    only_key_fields(table, at)?;
+    let name_at = at.field(CatalogueField::Name);
+    let text = text_field(table, "name", &faults_at(name_at))?;
+    let key = key_named(alloc, table, text, at)?;
+    if has_key(before, &key.name) {
+        return Err(CatalogueFault::At(CatalogueDefect::DuplicateKey, name_at));
     }
+    Ok(key)
+}
+
+// What a key of this name declares.
+#[tactic(auto, unfolding(crate::specs::Keys::key_named))]
+pub(crate) fn key_named(
+    alloc: Global,
+    table: &Table,
+    text: &str,
+    at: CataloguePlace,
+) -> Result<Key, CatalogueFault>
+    ensures { Gives CatalogueFault.Memory result (key_named at text.now (table_view table.now)) }
+{
+    let name = key_name(alloc, text, at)?;
+    let values = values_field(alloc, table, at.field(CatalogueField::Values))?;
+    let other_at = at.field(CatalogueField::Other);
+    let other = optional_text(table, "other", &faults_at(other_at))?;
+    let values = values_with(alloc, values, other, other_at)?;
+    let optional = optional_field(table, at.field(CatalogueField::Optional))?;
     Ok(Key {
         name,
         values,
@@ -65,7 +67,7 @@ fn key_of(
     })
 }
 
-fn has_key(keys: &[Key], name: &Text) -> bool
+pub(crate) fn has_key(keys: &[Key], name: &Text) -> bool
     ensures { result ≡ list_any (is_key name.now) keys.now }
 {
     keys.iter().any(|key| key.name == *name)
@@ -87,16 +89,50 @@ fn optional_field(table: &Table, at: CatalogueSpot) -> Result<bool, CatalogueFau
 
 // The name of a key.
 #[tactic(auto, unfolding(crate::specs::Keys::key_name))]
-fn key_name(alloc: Global, table: &Table, at: CataloguePlace) -> Result<Text, CatalogueFault>
-    ensures { Gives CatalogueFault.Memory result (key_name at (table_view table.now)) }
+fn key_name(alloc: Global, text: &str, at: CataloguePlace) -> Result<Text, CatalogueFault>
+    ensures { Gives CatalogueFault.Memory result (key_name at text.now) }
 {
-    only_key_fields(table, at)?;
     let at = at.field(CatalogueField::Name);
-    let name = label_field(alloc, table, at)?;
+    let name = label_of(alloc, text, at)?;
     if name.as_str() == "otel.metric.overflow" {
         return Err(CatalogueFault::At(CatalogueDefect::ReservedKey, at));
     }
     Ok(name)
+}
+
+// The values, and last the text that stands for all others, unless it is among them.
+fn values_with(
+    alloc: Global,
+    values: Values,
+    other: Option<&str>,
+    at: CatalogueSpot,
+) -> Result<Values, CatalogueFault>
+    ensures { Gives CatalogueFault.Memory result
+        (values_with at values (option_map now_of other.entry)) }
+{
+    let Some(other) = other else {
+        return Ok(values);
+    };
+    let other = AttrValue::Text(copy_short(alloc, other, at)?);
+    if values.number_of(other.as_ref()).is_some() {
+        return Ok(values);
+    }
+    if values.len() == 1000 {
+        return Err(CatalogueFault::At(CatalogueDefect::TooMany, at));
+    }
+    Ok(one_more(alloc, &values, other)?)
+}
+
+// The values, and last one that is none of them. Fails only when out of memory.
+fn one_more(alloc: Global, values: &Values, value: AttrValue) -> Result<Values, AllocError>
+    requires { length values.now < 1000 }
+    ensures { IfOk result (λ more. more ≡ values.now ++ value ∷ []) }
+{
+    let mut all = copy_all(alloc, values.as_slice())?;
+    all.push(value)?;
+    let made = Values::from_items(alloc, all)?;
+    // No value stands twice.
+    made.ok_or(AllocError)
 }
 
 // The values of a key, of which none stands twice.

@@ -1,15 +1,18 @@
 //! The names of the fields of each table.
 ghost use Rattle.std.specs.Prelude.{◌≡◌, map};
 ghost use Rattle.metric_table.specs.Fields.{now_of};
+ghost use Rattle.metric_catalogue.specs.Catalogues.{top_names};
 ghost use Rattle.metric_catalogue.specs.FieldWords.{field_name, names_at};
 ghost use Rattle.metric_catalogue.specs.Instruments.{instrument_fields};
 
-use crate::catalogue::TOP_FIELDS;
+use crate::catalogue::{SHARED_TOP_FIELDS, TOP_FIELDS};
 use crate::fault::{CatalogueField, CataloguePlace};
 use crate::instruments::INSTRUMENT_FIELDS;
 use crate::keys::KEY_FIELDS;
 use crate::meters::METER_FIELDS;
 use crate::recorders::{BUDGET_FIELDS, RECORDER_FIELDS};
+use crate::seats::SEAT_FIELDS;
+use crate::shared_keys::SHARED_FIELDS;
 
 impl CatalogueField {
     /// The name of the field in a file, empty for one that the format does not name.
@@ -19,6 +22,7 @@ impl CatalogueField {
         match self {
             CatalogueField::Unknown => "",
             CatalogueField::Format => "format",
+            CatalogueField::Id => "id",
             CatalogueField::Meter => "meter",
             CatalogueField::Recorder => "recorder",
             CatalogueField::Name => "name",
@@ -34,10 +38,24 @@ impl CatalogueField {
             CatalogueField::Allowed => "allowed",
             CatalogueField::Spare => "spare",
             CatalogueField::Values => "values",
+            CatalogueField::Other => "other",
             CatalogueField::Optional => "optional",
+            CatalogueField::Count => "count",
             CatalogueField::Budget => "budget",
             CatalogueField::Amount => "amount",
         }
+    }
+}
+
+// The names of the fields of the top table.
+#[tactic(auto, using(crate::proofs::FieldNames::field_names))]
+pub(crate) fn top_names(is_shared: bool) -> &'static [&'static str]
+    ensures { map now_of result.now ≡ top_names is_shared }
+{
+    if is_shared {
+        &SHARED_TOP_FIELDS
+    } else {
+        &TOP_FIELDS
     }
 }
 
@@ -59,11 +77,16 @@ pub fn field_names(place: CataloguePlace, format: u8) -> &'static [&'static str]
     ensures { map now_of result.now ≡ names_at format place }
 {
     match place {
-        CataloguePlace::Top => &TOP_FIELDS,
+        CataloguePlace::Top => top_names(format == 3),
         CataloguePlace::Meter(_) => &METER_FIELDS,
         CataloguePlace::Instrument(_) => instrument_names(format),
         CataloguePlace::Key(_, _) => &KEY_FIELDS,
-        CataloguePlace::Recorder(_) => &RECORDER_FIELDS,
+        CataloguePlace::SharedKey(_) => &SHARED_FIELDS,
+        CataloguePlace::Recorder(_) => if format == 3 {
+            &SEAT_FIELDS
+        } else {
+            &RECORDER_FIELDS
+        },
         CataloguePlace::Budget(_, _) => &BUDGET_FIELDS,
     }
 }

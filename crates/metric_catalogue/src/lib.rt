@@ -4,14 +4,19 @@
 mod allowed;
 mod catalogue;
 mod fault;
+mod full;
 mod instruments;
 mod keys;
 mod known;
 mod meters;
+mod named;
 mod recorders;
+mod same;
+mod seats;
+mod shared_keys;
 mod texts;
 
-pub use catalogue::Catalogue;
+pub use catalogue::{Catalogue, is_three};
 pub use fault::{CatalogueDefect, CatalogueFault, CatalogueField, CataloguePlace, CatalogueSpot};
 pub use known::field_names;
 pub use metric_contents::{

@@ -9,6 +9,7 @@ use crate::fault::{
     CatalogueDefect, CatalogueFault, CatalogueField, CataloguePlace, CatalogueSpot,
 };
 use crate::instruments::add_instruments;
+use crate::shared_keys::SharedKey;
 use crate::texts::{faults_at, free_text, needed_text, unknown_at};
 use metric_base::Items;
 use metric_contents::{Instrument, Meter};
@@ -32,17 +33,18 @@ pub(crate) fn add_meters(
     metered: &mut Metered,
     tables: &[&Table],
     format: u8,
+    shared: &[SharedKey],
 ) -> Result<(), CatalogueFault>
     requires meters { length metered.old.meters + length tables.now ≤ 64 }
     requires instruments { length metered.old.instruments ≤ 512 }
     ensures exact { Advances CatalogueFault.Memory result metered.new
-        (in_turn (with_meter format) metered.old (map (λ t. table_view t.now) tables.now)) }
+        (in_turn (with_meter format shared.now) metered.old (map (λ t. table_view t.now) tables.now)) }
     ensures meters { OnOk result
         (length metered.new.meters ≡ length metered.old.meters + length tables.now) }
     ensures instruments { OnOk result (length metered.new.instruments ≤ 512) }
 {
     for table in tables {
-        add_meter(alloc, metered, table, format)?;
+        add_meter(alloc, metered, table, format, shared)?;
     }
     Ok(())
 }
@@ -53,11 +55,12 @@ fn add_meter(
     metered: &mut Metered,
     table: &Table,
     format: u8,
+    shared: &[SharedKey],
 ) -> Result<(), CatalogueFault>
     requires meters { length metered.old.meters < 64 }
     requires instruments { length metered.old.instruments ≤ 512 }
     ensures exact { Advances CatalogueFault.Memory result metered.new
-        (with_meter format metered.old (table_view table.now)) }
+        (with_meter format shared.now metered.old (table_view table.now)) }
     ensures meters { OnOk result (length metered.new.meters ≡ length metered.old.meters + 1) }
     ensures instruments { OnOk result (length metered.new.instruments ≤ 512) }
 {
@@ -74,7 +77,14 @@ fn add_meter(
     )?;
     put_meter(&mut metered.meters, meter, at.field(CatalogueField::Name))?;
     let instruments = &mut metered.instruments;
-    add_instruments(alloc, tables.as_slice(), format, number, instruments)
+    add_instruments(
+        alloc,
+        tables.as_slice(),
+        format,
+        shared,
+        number,
+        instruments,
+    )
 }
 
 // Puts a meter last, unless it is there already.

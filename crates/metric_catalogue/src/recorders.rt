@@ -66,7 +66,7 @@ fn recorder_name(alloc: Global, table: &Table, at: CataloguePlace) -> Result<Tex
     ensures { Gives CatalogueFault.Memory result (recorder_name at (table_view table.now)) }
 {
     only_recorder_fields(table, at)?;
-    label_field(alloc, table, at.field(CatalogueField::Name))
+    label_field(alloc, table, "name", at.field(CatalogueField::Name))
 }
 
 // The budgets of a recorder, unless its name is taken, which is told before a fault of a budget.
@@ -101,7 +101,7 @@ fn only_recorder_fields(table: &Table, at: CataloguePlace) -> Result<(), Catalog
     only(table, &RECORDER_FIELDS, &unknown_at(at))
 }
 
-fn has_recorder(recorders: &[Recorder], name: &Text) -> bool
+pub(crate) fn has_recorder(recorders: &[Recorder], name: &Text) -> bool
     ensures { result ≡ list_any (is_recorder name.now) recorders.now }
 {
     recorders.iter().any(|recorder| recorder.name == *name)

@@ -1,10 +1,10 @@
 //! The texts of a table.
-ghost use Rattle.std.specs.Prelude.{◌≡◌, ◌==◌, length};
+ghost use Rattle.std.specs.Prelude.{◌≡◌, length};
 ghost use Rattle.toml.specs.View.{table_view};
 ghost use Rattle.metric_base.specs.Steps.{Gives};
 ghost use Rattle.metric_table.specs.Fields.{short_text};
 ghost use Rattle.metric_catalogue.specs.Faults.{faults_at, field_at, pair_faults_at};
-ghost use Rattle.metric_catalogue.specs.Texts.{free_text, label_field, needed_text};
+ghost use Rattle.metric_catalogue.specs.Texts.{free_text, label_field, label_of, needed_text};
 
 use crate::fault::{
     CatalogueDefect, CatalogueFault, CatalogueField, CataloguePlace, CatalogueSpot,
@@ -87,16 +87,25 @@ pub(crate) fn free_text(
     copy_short(alloc, text.unwrap_or(""), at)
 }
 
-// The name of a key or a recorder.
+// The name of a key or a recorder, or the id of a key.
 #[tactic(auto, unfolding(crate::specs::Texts::label_field))]
 pub(crate) fn label_field(
     alloc: Global,
     table: &Table,
+    name: &str,
     at: CatalogueSpot,
 ) -> Result<Text, CatalogueFault>
-    ensures { Gives CatalogueFault.Memory result (label_field at (table_view table.now)) }
+    ensures { Gives CatalogueFault.Memory result
+        (label_field at name.now (table_view table.now)) }
 {
-    let text = text_field(table, "name", &faults_at(at))?;
+    let text = text_field(table, name, &faults_at(at))?;
+    label_of(alloc, text, at)
+}
+
+// A text that is not empty, and not too long.
+pub(crate) fn label_of(alloc: Global, text: &str, at: CatalogueSpot) -> Result<Text, CatalogueFault>
+    ensures { Gives CatalogueFault.Memory result (label_of at text.now) }
+{
     if text.is_empty() {
         return Err(CatalogueFault::At(CatalogueDefect::BadName, at));
     }

@@ -1,8 +1,9 @@
 //! What a catalogue declares.
 use crate::values::Values;
-use metric_base::{Boundaries, Few, Shared, Text};
+use metric_base::{Boundaries, Copied, Few, Shared, Text};
 use metric_combinations::Combinations;
 use metric_names::{Name, Unit};
+use std::alloc::{AllocError, Global};
 
 /// The kind of an instrument (Metrics API, instrument kinds).
 #[derive(Clone, Copy, Debug, PartialEq, Eq, Drop)]
@@ -85,6 +86,16 @@ pub struct Key {
     pub optional: bool,
 }
 
+impl Copied for Key {
+    fn copy(&self, alloc: Global) -> Result<Key, AllocError> {
+        Ok(Key {
+            name: self.name.copy(alloc)?,
+            values: self.values.copy(alloc)?,
+            optional: self.optional,
+        })
+    }
+}
+
 /// How many recordings a recorder may make on one instrument.
 #[derive(Drop)]
 pub struct Budget {
@@ -92,6 +103,15 @@ pub struct Budget {
     pub instrument: u32,
     /// The number of recordings, at most 2^63 - 1.
     pub amount: u64,
+}
+
+impl Copied for Budget {
+    fn copy(&self, _alloc: Global) -> Result<Budget, AllocError> {
+        Ok(Budget {
+            instrument: self.instrument,
+            amount: self.amount,
+        })
+    }
 }
 
 /// A recorder, which makes recordings within its budgets.

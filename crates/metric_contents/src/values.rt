@@ -5,14 +5,21 @@ ghost use Rattle.metric_contents.specs.Places.{has_repeat, place};
 
 use crate::numbering::Numbering;
 use crate::shortcuts::Shortcuts;
-use metric_base::{Few, Items};
+use metric_base::{Copied, Few, Items, Shared};
 use metric_names::{AttrValue, ValueRef};
 use std::alloc::{AllocError, Global};
 use std::marker::Model;
 
-/// Distinct values, at most 1,000, numbered from 0 in declared order. A clause sees the list.
+/// Distinct values, at most 1,000, numbered from 0 in declared order. They are shared, so that a copy takes no room. A
+/// clause sees the list.
 #[derive(Drop)]
 pub struct Values {
+    shared: Shared<Listed>,
+}
+
+// The values, and how each is found.
+#[derive(Drop)]
+pub(crate) struct Listed {
     list: Few<AttrValue, 1000>,
     numbering: Numbering,
     shortcuts: Shortcuts,
@@ -26,10 +33,10 @@ impl Model for Values {
 
     ghost Value = { List AttrValue };
 
-    ghost view = { λ v. v.list };
+    ghost view = { λ v. v.shared.list };
 
-    ghost invariant = { λ v. IsNumbered v.numbering v.list
-        × All (IsRight v.list) v.shortcuts.slots.items };
+    ghost invariant = { λ v. IsNumbered v.shared.numbering v.shared.list
+        × All (IsRight v.shared.list) v.shared.shortcuts.slots.items };
 }
 
 impl Values {
@@ -45,11 +52,13 @@ impl Values {
         }
         let shortcuts = Shortcuts::new(alloc, values.as_slice(), &numbering)?;
         let list = Few::from_items(values);
-        Ok(Some(Values {
+        let listed = Listed {
             list,
             numbering,
             shortcuts,
-        }))
+        };
+        let shared = Shared::new(alloc, listed)?;
+        Ok(Some(Values { shared }))
     }
 
     /// The values in declared order.
@@ -58,7 +67,7 @@ impl Values {
         ensures few { length self.now ≤ 1000 }
         ensures distinct { has_repeat self.now ≡ false }
     {
-        self.list.as_slice()
+        self.shared.get().list.as_slice()
     }
 
     /// How many values there are.
@@ -66,7 +75,7 @@ impl Values {
         ensures length { result ≡ length self.now }
         ensures few { length self.now ≤ 1000 }
     {
-        self.list.len()
+        self.shared.get().list.len()
     }
 
     /// Whether there is no value.
@@ -83,11 +92,19 @@ impl Values {
         ensures within { IfSome result (λ number. number < length self.now) }
         ensures few { length self.now ≤ 1000 }
     {
+        let listed = self.shared.get();
         if let ValueRef::Text(text) = value {
-            if let Some(number) = self.shortcuts.number_of(text) {
+            if let Some(number) = listed.shortcuts.number_of(text) {
                 return Some(number);
             }
         }
-        self.numbering.number_of(value)
+        listed.numbering.number_of(value)
+    }
+}
+
+impl Copied for Values {
+    fn copy(&self, alloc: Global) -> Result<Values, AllocError> {
+        let shared = self.shared.copy(alloc)?;
+        Ok(Values { shared })
     }
 }

@@ -1,7 +1,6 @@
 -- An input has one output.
 use Rattle.std.proofs.Common.{Bool, true, false, inl, inr, ◌≡◌, ℕ, List, [], ◌++◌, Option, Some, None, Ok, IsSomeAnd, sym, ap, subst, ◌∙◌}
 use Rattle.metric_base.specs.StepLaws.{ok_is}
-use Rattle.metric_catalogue.specs.Catalogues.{catalogue_of}
 use Rattle.metric_contents.specs.declared.contents.Contents.{Contents as Declared}
 use Rattle.metric_views.specs.Configs.{config_of}
 use Rattle.metric_views.specs.declared.config.Setup.{Setup}
@@ -19,7 +18,7 @@ use Rattle.metric_check.specs.Products.{by_product_of}
 use Rattle.metric_history.specs.declared.event.Event.{Event}
 use Rattle.metric_history.specs.declared.event.Reply.{Reply}
 use Rattle.metric_kit_commands.specs.declared.options.ReplayOptions.{ReplayOptions}
-use Rattle.metric_kit_commands.specs.Declarations.{IsDeclared}
+use Rattle.metric_kit_commands.specs.Declarations.{contents_in, IsDeclared}
 use Rattle.metric_kit_commands.specs.Replies.{replies_text}
 use Rattle.metric_kit_commands.specs.Replaying.{IsPlanned, IsOutput, audit_text}
 use Rattle.metric_kit_commands.proofs.AnswerLaws.{one_run}
@@ -35,7 +34,7 @@ same_read law needs lines a b p q = p.texts ∙ ap (read_of needs) (law needs li
 same_facts : (is_certified : Bool) (by_product : List Bool) (read : Parts) (c d : Declared) (e f : Setup) → IsDeclared read c e → IsDeclared read d f
     → plan_of is_certified by_product c e ≡ plan_of is_certified by_product d f
 same_facts is_certified by_product read c d e f p q =
-    let contents : c ≡ d = ok_is c d (catalogue_of read.catalogue) p.is_catalogue q.is_catalogue in
+    let contents : c ≡ d = ok_is c d (contents_in read) p.is_catalogue q.is_catalogue in
     let config : e ≡ f = ok_is e f (config_of read.config) p.is_config q.is_config in
     ap (λ (x : Declared). plan_of is_certified by_product x e) contents ∙ ap (λ (x : Setup). plan_of is_certified by_product d x) config
 

@@ -25,7 +25,7 @@ use Rattle.metric_kit_commands.specs.declared.fault.KitFault.TheVariants.{
   Memory,
 }
 use Rattle.metric_kit_commands.specs.Commands.{IsAnswerTo}
-use Rattle.metric_kit_commands.specs.Declarations.{IsDeclared, IsDeclaredFault, IsMisdeclared}
+use Rattle.metric_kit_commands.specs.Declarations.{contents_in, IsDeclared, IsDeclaredFault, IsMisdeclared}
 use Rattle.metric_kit_commands.specs.Showing.{show_needs}
 
 -- The fault is the first part of safety that fails, unless memory ran out.
@@ -54,7 +54,7 @@ IsCertificateText = IsAnswerTo show_needs IsCertified
 
 -- What the parts declare is right, and not safe.
 abbrev pub IsRefusedMake : Parts → MakeFault → Type 0
-IsRefusedMake read = IsUnsafeSetup read.catalogue read.config
+IsRefusedMake read = IsUnsafeSetup (contents_in read) read.config
 
 -- The fault is the first of the catalogue, the config and their safety.
 abbrev pub IsMakeFault : KitFault → Parts → Type 0

@@ -34,7 +34,7 @@ pub fn declared_of(alloc: Global, parts: &Parts<'_>) -> Result<Declared, KitFaul
     ensures first { IfErr result (λ fault. IsDeclaredFault fault parts.now) }
     ensures own { IfErr result IsOfInput }
 {
-    let catalogue = catalogue_of(alloc, parts.catalogue.as_str())?;
+    let catalogue = catalogue_of(alloc, parts.catalogue.as_str(), parts.opens)?;
     let config = config_of(alloc, parts.config.as_str())?;
     Ok(Declared { catalogue, config })
 }

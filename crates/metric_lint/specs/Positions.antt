@@ -24,6 +24,7 @@ catalogue_place (catalogue.Instrument number) =
     Nth (codes "[[meter.instrument]]") (codes "instrument=[") number
 catalogue_place (catalogue.Key number key) =
     Nth (codes "[[meter.instrument]]") (codes "instrument=[") number
+catalogue_place (catalogue.SharedKey number) = Nth (codes "[[key]]") (codes "key=[{") number
 catalogue_place (catalogue.Recorder number) = Nth (codes "[[recorder]]") (codes "recorder=[") number
 catalogue_place (catalogue.Budget number budget) =
     Nth (codes "[[recorder]]") (codes "recorder=[") number

@@ -18,8 +18,8 @@ pub struct Position {
     pub column: usize,
 }
 
-/// Where the table that a place names begins in the text of a catalogue: the line with its header, `[[meter]]`,
-/// `[[meter.instrument]]` or `[[recorder]]`, of those of its kind in order. The top table begins with the text, and a
+/// Where the table that a place names begins in the text of a catalogue: the line with its header, `[[key]]`,
+/// `[[meter]]`, `[[meter.instrument]]` or `[[recorder]]`, of those of its kind in order. The top table begins with the text, and a
 /// key or a budget stands where its instrument or recorder does.
 ///
 /// Nothing where the text has no such header, or has a list of such tables in one line, as `recorder = [{ name = "main"
@@ -37,6 +37,7 @@ pub fn locate_in_catalogue(
         CataloguePlace::Instrument(number) | CataloguePlace::Key(number, _) => {
             located(alloc, text, "[[meter.instrument]]", "instrument=[", number)
         }
+        CataloguePlace::SharedKey(number) => located(alloc, text, "[[key]]", "key=[{", number),
         CataloguePlace::Recorder(number) | CataloguePlace::Budget(number, _) => {
             located(alloc, text, "[[recorder]]", "recorder=[", number)
         }

@@ -1,2 +1,4 @@
+mod Alike
 pub mod ChoiceLaws
+mod Least
 mod StandingLaws

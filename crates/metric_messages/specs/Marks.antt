@@ -8,6 +8,8 @@ use Rattle.metric_catalogue.specs.declared.fault.CatalogueDefect.TheVariants as 
 use Rattle.metric_catalogue.specs.declared.fault.CatalogueFault.{CatalogueFault}
 use Rattle.metric_catalogue.specs.declared.fault.CatalogueFault.TheVariants as of_catalogue
 use Rattle.metric_catalogue.specs.declared.fault.CatalogueSpot.{CatalogueSpot}
+use Rattle.metric_catalogue.specs.declared.fault.CatalogueField.{CatalogueField}
+use Rattle.metric_catalogue.specs.declared.fault.CatalogueField.TheVariants as catalogue_fields
 use Rattle.metric_catalogue.specs.FieldWords.{field_name as catalogue_field}
 use Rattle.metric_catalogue.specs.FieldWords.{names_at as catalogue_names}
 use Rattle.metric_cert.specs.declared.fault.CertFault.{CertFault}
@@ -74,6 +76,14 @@ abbrev pub is_field : Option ℕ → List ℕ → List ℕ → List ℕ → Bool
 is_field None name before rest = has_word name rest
 is_field (Some entry) name before rest = is_listed name entry before
 
+-- the entry of a spot, where its field is a list: budgets by name are a table
+abbrev pub entry_of : CatalogueField → Option ℕ → Option ℕ
+entry_of catalogue_fields.Budget entry = None
+entry_of _ entry = entry
+
+abbrev pub entry_in : CatalogueSpot → Option ℕ
+entry_in spot = entry_of spot.field spot.entry
+
 -- Of a field that is missing: its table, or the field itself where that is an empty list. Of one
 -- that is not known: a name that is none of its table's. Of any other: the field, or its entry.
 abbrev pub marks_in_catalogue : CatalogueDefect → CatalogueSpot → Bool → List ℕ → List ℕ → Bool
@@ -82,7 +92,7 @@ marks_in_catalogue catalogue.MissingField spot plain before rest =
 marks_in_catalogue catalogue.UnknownField spot plain before rest =
     is_other (catalogue_names 1 spot.place) before rest
 marks_in_catalogue _ spot plain before rest =
-    is_field spot.entry (catalogue_field spot.field) before rest
+    is_field (entry_in spot) (catalogue_field spot.field) before rest
 
 -- the same, and where the text is plain, in the table of its number
 abbrev pub catalogue_marks : CatalogueDefect → CatalogueSpot → List ℕ → List ℕ → List ℕ → Bool

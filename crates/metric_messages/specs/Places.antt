@@ -1,5 +1,11 @@
 -- Where a fault stands in its text.
-use Rattle.std.specs.Prelude.{◌≡◌, ℕ, List, Option, Some, None, slice_get}
+use Rattle.std.specs.Prelude.{◌≡◌, ℕ, ◌+◌, ◌-◌, List, [], ◌∷◌, Option, Some, None, slice_get}
+use Rattle.std.specs.Prelude.{codes, if◌then◌else◌, nat_lt, unwrap_or}
+use Rattle.toml.specs.Data.{Data, integer, table as table_data, Members, get_member}
+use Rattle.toml.specs.Parse.{parse_document}
+use Rattle.metric_table.specs.Fields.{as_list, number_between}
+use Rattle.metric_catalogue.specs.Catalogues.{is_three}
+use Rattle.metric_catalogue.specs.declared.fault.CataloguePlace.{CataloguePlace}
 use Rattle.metric_catalogue.specs.declared.fault.CataloguePlace.TheVariants.{Instrument, Recorder}
 use Rattle.metric_catalogue.specs.declared.fault.CataloguePlace.TheVariants as tops
 use Rattle.metric_views.specs.declared.fault.ConfigPlace.TheVariants.{Top, View, Reader}
@@ -18,9 +24,40 @@ use Rattle.metric_messages.specs.declared.places.Place.{Place}
 use Rattle.metric_messages.specs.declared.places.Place.TheVariants.{Catalogue, Config}
 use Rattle.metric_messages.specs.declared.sources.Pair.{Pair}
 
+-- for how many recorders a table stands
+abbrev pub seats_in : Option Data → ℕ
+seats_in (Some (integer count)) = unwrap_or (number_between 1 64 count) 1
+seats_in _ = 1
+
+abbrev pub seats_of : Data → ℕ
+seats_of (table_data fields) = seats_in (get_member (codes "count") fields)
+seats_of _ = 1
+
+-- # table of a recorder (profile) [table_of, written]
+-- The one that stands for the recorder of a number: in format 3 a table may stand for several.
+abbrev pub table_of : ℕ → List Data → ℕ
+table_of number [] = number
+table_of number (table ∷ tables) =
+    if nat_lt number (seats_of table) then 0 else table_of (number - seats_of table) tables + 1
+
+abbrev pub tables_in : Option Data → List Data
+tables_in None = []
+tables_in (Some d) = unwrap_or (as_list d) []
+
+abbrev pub table_within : ℕ → Option Members → ℕ
+table_within number None = number
+table_within number (Some top) =
+    if is_three (get_member (codes "format") top)
+    then table_of number (tables_in (get_member (codes "recorder") top)) else number
+
+abbrev pub written : List ℕ → CataloguePlace → CataloguePlace
+written text (Recorder number) = Recorder (table_within number (parse_document text))
+written text place = place
+
 -- where the table of a place stands in the texts of a catalogue and a config
 abbrev pub standing : List ℕ → List ℕ → Place → Option Position
-standing catalogue config (Catalogue place) = located catalogue (catalogue_place place)
+standing catalogue config (Catalogue place) =
+    located catalogue (catalogue_place (written catalogue place))
 standing catalogue config (Config place) = located config (config_place place)
 
 -- the file that a place is in

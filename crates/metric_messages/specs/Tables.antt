@@ -21,6 +21,8 @@ catalogue_table (catalogue.Instrument number) plain before rest =
     is_table (codes "[[meter.instrument]]") plain rest
 catalogue_table (catalogue.Key number key) plain before rest =
     is_table (codes "[[meter.instrument.key]]") plain rest
+catalogue_table (catalogue.SharedKey number) plain before rest =
+    is_table (codes "[[key]]") plain rest
 catalogue_table (catalogue.Recorder number) plain before rest =
     is_table (codes "[[recorder]]") plain rest
 catalogue_table (catalogue.Budget number budget) plain before rest =
@@ -37,6 +39,8 @@ in_catalogue (catalogue.Instrument number) before rest =
 in_catalogue (catalogue.Key number key) before rest =
     is_nth [] (codes "[[meter.instrument]]") number before rest
     && is_nth (codes "[[meter.instrument]]") (codes "[[meter.instrument.key]]") key before rest
+in_catalogue (catalogue.SharedKey number) before rest =
+    is_nth [] (codes "[[key]]") number before rest
 in_catalogue (catalogue.Recorder number) before rest =
     is_nth [] (codes "[[recorder]]") number before rest
 in_catalogue (catalogue.Budget number budget) before rest =

@@ -10,8 +10,8 @@ use metric_catalogue::CatalogueFault;
 use std::alloc::{AllocError, Global};
 
 /// What a person is told of a fault of a catalogue's text: the place of its field, and what is wrong with it. Of
-/// another text or another fault than `Catalogue::read` answers of it the words may be less exact. Fails only when out
-/// of memory.
+/// another text or another fault than `Catalogue::open` or `read` answers of it the words may be less exact. Fails only
+/// when out of memory.
 pub fn diagnose_catalogue<'t>(
     alloc: Global,
     source: NamedText<'t>,

@@ -6,7 +6,10 @@ use crate::reasons::{
     of_value, of_word,
 };
 use crate::site::Site;
-use crate::tables::{instrument_at, instrument_count, is_among, name_in};
+use crate::standing_tables::entry_in;
+use crate::tables::{
+    id_in, instrument_at, instrument_count, is_among, name_in, near_id, near_instrument,
+};
 use crate::way::{Way, table_on};
 use metric_catalogue::{
     CatalogueDefect, CatalogueField, CataloguePlace, CatalogueSpot, field_names,
@@ -55,13 +58,14 @@ fn unknown_site<'v>(top: &'v Table, spot: CatalogueSpot) -> Site<'v> {
 
 fn known_site<'v>(top: &'v Table, spot: CatalogueSpot) -> Site<'v> {
     let way = way_to(top, spot.place);
-    Site::of_known(top, way, spot.field.name(), spot.entry)
+    Site::of_known(top, way, spot.field.name(), entry_in(spot))
 }
 
 // The number of the format, where the file has it.
 fn format_of(top: &Table) -> u8 {
     match number_of(top.get("format")) {
         Some(1) => 1,
+        Some(3) => 3,
         _ => 2,
     }
 }
@@ -73,6 +77,7 @@ fn way_to<'v>(top: &Table, place: CataloguePlace) -> Way<'v> {
         CataloguePlace::Meter(number) => Way::top().element("meter", number),
         CataloguePlace::Instrument(number) => way_to_instrument(top, number),
         CataloguePlace::Key(number, key) => way_to_instrument(top, number).element("key", key),
+        CataloguePlace::SharedKey(number) => Way::top().element("key", number),
         CataloguePlace::Recorder(number) => Way::top().element("recorder", number),
         CataloguePlace::Budget(number, budget) => Way::top()
             .element("recorder", number)
@@ -98,6 +103,7 @@ fn subjects_of<'v>(
         CataloguePlace::Meter(number) => (Some(Named::new("meter", number, name)), None),
         CataloguePlace::Instrument(number) => (Some(Named::new("instrument", number, name)), None),
         CataloguePlace::Recorder(number) => (Some(Named::new("recorder", number, name)), None),
+        CataloguePlace::SharedKey(number) => (Some(Named::new("key", number, name)), None),
         CataloguePlace::Key(number, key) => {
             let outer = name_on(top, CataloguePlace::Instrument(number));
             let outer = Named::new("instrument", number, outer);
@@ -112,13 +118,17 @@ fn subjects_of<'v>(
 }
 
 fn name_on(top: &Table, place: CataloguePlace) -> Option<&str> {
-    name_in(table_on(top, way_to(top, place))?)
+    let table = table_on(top, way_to(top, place))?;
+    match place {
+        CataloguePlace::SharedKey(_) => id_in(table),
+        _ => name_in(table),
+    }
 }
 
 // What is wrong with the field.
 fn wrong_of<'v>(
     alloc: Global,
-    top: &Table,
+    top: &'v Table,
     defect: CatalogueDefect,
     spot: CatalogueSpot,
     site: Site<'v>,
@@ -126,17 +136,18 @@ fn wrong_of<'v>(
     let value = site.value;
     match defect {
         CatalogueDefect::MissingField => site.missing(),
-        CatalogueDefect::WrongKind => wrong_kind(spot, value),
+        CatalogueDefect::WrongKind => wrong_kind(top, spot, value),
         CatalogueDefect::UnknownField => unknown_field(top, spot, site.name),
         CatalogueDefect::BadName => bad_name(alloc, spot, value),
         CatalogueDefect::BadUnit => of_unit(alloc, value),
         CatalogueDefect::BadRange => bad_range(spot, value),
         CatalogueDefect::BadBoundaries => of_boundaries(value),
         CatalogueDefect::DuplicateValue => of_repeated(value),
-        CatalogueDefect::UnknownInstrument => match number_of(value) {
-            Some(number) => Wrong::NoInstrument(number, instrument_count(top)),
-            None => of_value(value, "the number of an instrument"),
-        },
+        CatalogueDefect::UnknownInstrument => no_instrument(top, spot, value),
+        CatalogueDefect::AmbiguousInstrument => {
+            Wrong::Entry(budget_name(spot, value), AMBIGUOUS)
+        }
+        CatalogueDefect::UnknownKey => no_key(top, value),
         CatalogueDefect::TooMany => Wrong::TooMany(most_of(spot)),
         CatalogueDefect::BadCombination => Wrong::Combination(spot.entry.unwrap_or(0), UNFIT),
         CatalogueDefect::DuplicateCombination => {
@@ -144,9 +155,15 @@ fn wrong_of<'v>(
         }
         CatalogueDefect::DuplicateMeter => Wrong::Plain(SAME_METER),
         CatalogueDefect::DuplicateInstrument => Wrong::Plain(SAME_INSTRUMENT),
-        CatalogueDefect::DuplicateKey => Wrong::Plain(SAME_KEY),
+        CatalogueDefect::DuplicateKey => Wrong::Plain(match spot.field {
+            CatalogueField::Id => SAME_ID,
+            _ => SAME_KEY,
+        }),
         CatalogueDefect::DuplicateRecorder => Wrong::Plain(SAME_RECORDER),
-        CatalogueDefect::DuplicateBudget => Wrong::Plain(SAME_BUDGET),
+        CatalogueDefect::DuplicateBudget => Wrong::Plain(match spot.place {
+            CataloguePlace::Budget(_, _) => SAME_BUDGET,
+            _ => TWO_BUDGETS,
+        }),
         CatalogueDefect::ReservedKey => Wrong::Plain(RESERVED),
     }
 }
@@ -163,6 +180,15 @@ const SAME_INSTRUMENT: &str =
 
 const SAME_KEY: &str = ": an earlier key of the instrument has the same name";
 
+const SAME_ID: &str = ": an earlier key has the same id";
+
+const TWO_BUDGETS: &str = ": it names an instrument twice, by its name alone and after its meter";
+
+const AMBIGUOUS: &str =
+    " stands for instruments of several meters: write that of the meter and a slash before it";
+
+const NO_AMOUNT: &str = " is not a whole number from 0 on";
+
 const SAME_RECORDER: &str = ": an earlier recorder has the same name";
 
 const SAME_BUDGET: &str = ": an earlier budget of the recorder is for the same instrument";
@@ -170,30 +196,92 @@ const SAME_BUDGET: &str = ": an earlier budget of the recorder is for the same i
 const RESERVED: &str = ": this name marks the overflow point, and no key may have it";
 
 // That a value is of another kind than the field takes.
-fn wrong_kind<'v>(spot: CatalogueSpot, value: Option<&'v Value>) -> Wrong<'v> {
+fn wrong_kind<'v>(top: &Table, spot: CatalogueSpot, value: Option<&'v Value>) -> Wrong<'v> {
     match spot.field {
-        CatalogueField::Format => of_format(value, "catalogue", "1 and 2"),
+        CatalogueField::Format => of_format(value, "catalogue", formats_of(top)),
         CatalogueField::Kind => of_word(value, kind_names()),
         CatalogueField::Range => of_value(value, "two whole numbers"),
         CatalogueField::Boundaries => of_list(value, Entries::Numbers),
-        CatalogueField::Spare | CatalogueField::Amount => of_value(value, "a whole number"),
+        CatalogueField::Spare | CatalogueField::Amount | CatalogueField::Count => {
+            of_value(value, "a whole number")
+        }
         CatalogueField::Optional => of_value(value, "true or false"),
         CatalogueField::Values | CatalogueField::Allowed => wrong_entry(spot, value),
-        CatalogueField::Meter
-        | CatalogueField::Recorder
-        | CatalogueField::Key
-        | CatalogueField::Budget => of_list(value, Entries::Tables),
+        CatalogueField::Key => wrong_key(spot, value),
+        CatalogueField::Budget if format_of(top) == 3 => {
+            of_value(value, "a table of numbers by the names of instruments")
+        }
+        CatalogueField::Meter | CatalogueField::Recorder | CatalogueField::Budget => {
+            of_list(value, Entries::Tables)
+        }
         CatalogueField::Instrument => match spot.place {
             CataloguePlace::Budget(_, _) => of_value(value, "the number of an instrument"),
             _ => of_list(value, Entries::Tables),
         },
         CatalogueField::Unknown
+        | CatalogueField::Id
         | CatalogueField::Name
         | CatalogueField::Version
         | CatalogueField::SchemaUrl
         | CatalogueField::Unit
+        | CatalogueField::Other
         | CatalogueField::Description => of_value(value, "text"),
     }
+}
+
+// The formats that may stand in place of the one of a file: one of format 3 has a fault there where it was not opened.
+fn formats_of(top: &Table) -> &'static str {
+    if format_of(top) == 3 {
+        "1 and 2"
+    } else {
+        "1 to 3"
+    }
+}
+
+// That the list of an instrument's keys, or an entry of it, is of another kind.
+fn wrong_key<'v>(spot: CatalogueSpot, value: Option<&'v Value>) -> Wrong<'v> {
+    match (spot.entry, value) {
+        (Some(number), Some(value)) => {
+            Wrong::EntryNotA(number, value, "the id of a key, or a table")
+        }
+        _ => of_list(value, Entries::Tables),
+    }
+}
+
+// That no instrument has the number, or the name, that a budget has.
+fn no_instrument<'v>(top: &'v Table, spot: CatalogueSpot, value: Option<&'v Value>) -> Wrong<'v> {
+    match (spot.place, number_of(value)) {
+        (CataloguePlace::Recorder(_), _) => {
+            let name = budget_name(spot, value);
+            Wrong::NoSuch(
+                "no instrument has the name ",
+                name,
+                near_instrument(top, name),
+            )
+        }
+        (_, Some(number)) => Wrong::NoInstrument(number, instrument_count(top)),
+        _ => of_value(value, "the number of an instrument"),
+    }
+}
+
+// The name of the budget that a spot is of, in the order of names.
+fn budget_name<'v>(spot: CatalogueSpot, value: Option<&'v Value>) -> &'v str {
+    let Some(Value::Table(budget)) = value else {
+        return "";
+    };
+    match budget.keys().nth(spot.entry.unwrap_or(0) as usize) {
+        Some(name) => name.as_str(),
+        None => "",
+    }
+}
+
+// That no key has the id that an instrument names.
+fn no_key<'v>(top: &'v Table, value: Option<&'v Value>) -> Wrong<'v> {
+    let id = match value {
+        Some(value) => value.as_str().unwrap_or(""),
+        None => "",
+    };
+    Wrong::NoSuch("no key has the id ", id, near_id(top, id))
 }
 
 // That a value of a key or a combination, or the list of them, is of another kind.
@@ -229,6 +317,8 @@ fn bad_name<'v>(alloc: Global, spot: CatalogueSpot, value: Option<&'v Value>) ->
 fn bad_range<'v>(spot: CatalogueSpot, value: Option<&'v Value>) -> Wrong<'v> {
     match spot.field {
         CatalogueField::Range => of_range(value),
+        CatalogueField::Count => of_value(value, "a whole number from 1 to 64"),
+        CatalogueField::Budget => Wrong::Entry(budget_name(spot, value), NO_AMOUNT),
         _ => of_value(value, "a whole number from 0 on"),
     }
 }
@@ -240,12 +330,18 @@ fn most_of(spot: CatalogueSpot) -> &'static str {
         CatalogueField::Recorder => "64 recorders",
         CatalogueField::Instrument => "512 instruments of all meters",
         CatalogueField::Boundaries => "128 boundaries",
-        CatalogueField::Key => "8 keys",
+        CatalogueField::Key => match spot.place {
+            CataloguePlace::Top => "512 keys",
+            _ => "8 keys",
+        },
         CatalogueField::Allowed => "4096 combinations",
         CatalogueField::Values => most_of_values(spot.entry),
         CatalogueField::Budget => "512 budgets",
+        CatalogueField::Other => "1000 values with it, and 1023 characters,",
         CatalogueField::Unknown
         | CatalogueField::Format
+        | CatalogueField::Id
+        | CatalogueField::Count
         | CatalogueField::Name
         | CatalogueField::Version
         | CatalogueField::SchemaUrl

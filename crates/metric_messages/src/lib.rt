@@ -2,7 +2,7 @@
 //!
 //! | What answered | What tells it |
 //! |---|---|
-//! | `Catalogue::read` | `diagnose_catalogue` |
+//! | `Catalogue::open` and `read` | `diagnose_catalogue` |
 //! | `Config::read` | `diagnose_config` |
 //! | the reader of a certificate | `diagnose_certificate` |
 //! | the check of a certificate that was read | `diagnose_check` |
@@ -41,6 +41,7 @@ mod marked;
 mod missed;
 mod mistake;
 mod named;
+mod near;
 mod places;
 mod reasons;
 mod remarks;

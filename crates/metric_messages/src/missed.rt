@@ -1,5 +1,6 @@
 //! Why a view selects nothing.
 use crate::named::instrument_of;
+use crate::near::nearest;
 use crate::sentence::write_three;
 use crate::shown::Quoted;
 use crate::sources::Pair;
@@ -81,7 +82,7 @@ fn near_name<'t>(
     for instrument in instruments {
         names.push(instrument.name.get().as_str())?;
     }
-    Ok(metric_suggest::nearest(pattern.as_str(), &names))
+    Ok(nearest(pattern.as_str(), &names))
 }
 
 fn has_name(criteria: &Criteria, instrument: &Instrument) -> bool {

@@ -1,7 +1,7 @@
 //! What is wrong with a field of a catalogue or a config, in words.
+use crate::near::nearest;
 use crate::sentence::{write_one, write_part, write_three, write_two};
 use crate::shown::{Quoted, Shown, Words};
-use metric_suggest::nearest;
 use std::fmt;
 use toml::Value;
 
@@ -43,6 +43,10 @@ pub(crate) enum Wrong<'v> {
     NoInstrument(i64, usize),
     // The second number does not come after the first.
     Order(i64, i64, &'static str),
+    // Nothing has this id or name, but maybe one that is near.
+    NoSuch(&'static str, &'v str, Option<&'v str>),
+    // These words tell what is wrong with the entry of a name.
+    Entry(&'v str, &'static str),
     // A value stands twice.
     Repeated(&'v Value),
     // These words tell what is wrong with the combination of a number.
@@ -116,7 +120,11 @@ fn write_expected_words<W: fmt::Write>(
     names: &'static [&'static str],
 ) -> fmt::Result {
     write_part(f, ("; expected ", &Words(names)))?;
-    match nearest(text, names) {
+    write_near(f, nearest(text, names))
+}
+
+fn write_near<W: fmt::Write>(f: &mut fmt::Formatter<W>, near: Option<&str>) -> fmt::Result {
+    match near {
         Some(name) => write_one(f, ("; did you mean ", &name), "?"),
         None => Ok(()),
     }
@@ -143,6 +151,11 @@ impl fmt::Display for Wrong<'_> {
             Wrong::Order(first, second, how) => {
                 write_three(f, (": ", &first), (" and ", &second), (": ", &how), "")
             }
+            Wrong::NoSuch(what, name, near) => {
+                write_two(f, (": ", &what), ("", &Quoted(name)), "")?;
+                write_near(f, near)
+            }
+            Wrong::Entry(name, words) => write_one(f, (": ", &Quoted(name)), words),
             Wrong::Repeated(value) => write_one(f, (": ", &Shown(value)), " is listed twice"),
             Wrong::Combination(number, words) => write_one(f, (": combination ", &number), words),
         }

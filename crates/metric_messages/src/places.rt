@@ -1,12 +1,18 @@
 //! Where the tables of a catalogue and a config that were read stand.
-ghost use Rattle.std.specs.Prelude.{◌≡◌, IfOk};
-ghost use Rattle.metric_messages.specs.Places.{file_of, standing};
+ghost use Rattle.std.specs.Prelude.{◌≡◌, ◌≤◌, IfOk, Some, map};
+ghost use Rattle.std.specs.Option.{option_map};
+ghost use Rattle.toml.specs.Parse.{parse_document};
+ghost use Rattle.toml.specs.View.{table_view, view};
+ghost use Rattle.metric_table.specs.Fields.{as_list};
+ghost use Rattle.metric_messages.specs.Places.{file_of, seats_in, seats_of, standing, table_of, table_within, tables_in, written};
 
 use crate::sources::{NamedText, Pair};
-use metric_catalogue::CataloguePlace;
+use metric_catalogue::{CataloguePlace, is_three};
 use metric_lint::{Position, locate_in_catalogue, locate_in_config};
+use metric_table::member;
 use metric_views::ConfigPlace;
 use std::alloc::{AllocError, Global};
+use toml::{Table, Value};
 
 // A table of a catalogue or a config.
 #[derive(Clone, Copy)]
@@ -45,7 +51,101 @@ pub(crate) fn position_of(
         pair.entry.config_source.text.now place) }
 {
     match place {
-        Place::Catalogue(place) => locate_in_catalogue(alloc, pair.catalogue_source.text, place),
+        Place::Catalogue(place) => {
+            let text = pair.catalogue_source.text;
+            let place = written(alloc, text, place)?;
+            locate_in_catalogue(alloc, text, place)
+        }
         Place::Config(place) => locate_in_config(alloc, pair.config_source.text, place),
+    }
+}
+
+// The place as a text has it: the table that stands for a recorder.
+fn written(alloc: Global, text: &str, place: CataloguePlace) -> Result<CataloguePlace, AllocError>
+    ensures { IfOk result (λ found. found ≡ written text.now place) }
+{
+    match place {
+        CataloguePlace::Recorder(number) => {
+            let table = table_within(alloc, text, number)?;
+            Ok(CataloguePlace::Recorder(table))
+        }
+        place => Ok(place),
+    }
+}
+
+fn table_within(alloc: Global, text: &str, number: u32) -> Result<u32, AllocError>
+    ensures { IfOk result (λ table. table ≡ table_within number (parse_document text.now)) }
+{
+    match toml::table_from_str(alloc, text) {
+        Ok(top) => Ok(table_in(&top, number)),
+        Err(error) if error.is_memory() => Err(AllocError),
+        Err(_) => Ok(number),
+    }
+}
+
+fn table_in(top: &Table, number: u32) -> u32
+    ensures { result ≡ table_within number (Some (table_view top.now)) }
+{
+    if is_three(member(top, "format")) {
+        table_of(tables_in(member(top, "recorder")), number)
+    } else {
+        number
+    }
+}
+
+fn tables_in(value: Option<&Value>) -> &[Value]
+    ensures { map view result.now ≡ tables_in (option_map (λ v. view v.now) value.entry) }
+{
+    match value {
+        Some(value) => as_list(value).unwrap_or(&[]),
+        None => &[],
+    }
+}
+
+#[tactic(auto, using(metric_table::proofs::Tables::list_laws))]
+fn as_list(value: &Value) -> Option<&[Value]>
+    ensures { option_map (λ vs. map view vs.now) result ≡ as_list (view value.now) }
+{
+    match value.as_array() {
+        Some(values) => Some(values.as_slice()),
+        None => None,
+    }
+}
+
+// The table that stands for the recorder of a number.
+fn table_of(tables: &[Value], number: u32) -> u32
+    ensures { result ≡ table_of number (map view tables.now) }
+{
+    let mut left = number;
+    let mut passed = 0u32;
+    for table in tables {
+        let seats = seats_of(table);
+        if left < seats {
+            return passed;
+        }
+        left -= seats;
+        passed += 1;
+    }
+    passed + left
+}
+
+// For how many recorders a table stands.
+fn seats_of(table: &Value) -> u32
+    ensures exact { result ≡ seats_of (view table.now) }
+    ensures some { 1 ≤ result }
+{
+    match table {
+        Value::Table(fields) => seats_in(member(fields, "count")),
+        _ => 1,
+    }
+}
+
+fn seats_in(count: Option<&Value>) -> u32
+    ensures exact { result ≡ seats_in (option_map (λ v. view v.now) count.entry) }
+    ensures some { 1 ≤ result }
+{
+    match count {
+        Some(Value::Integer(count)) if 1 <= *count && *count <= 64 => *count as u32,
+        _ => 1,
     }
 }

@@ -1,13 +1,13 @@
 //! Whether a place of a text is that of a fault.
 ghost use Rattle.std.specs.Prelude.{◌≡◌, ◌&&◌, ◌||◌, map, not};
-ghost use Rattle.metric_messages.specs.Marks.{certificate_marks, chosen, is_field, kind_name, known_names, marks_in_catalogue, marks_in_config, marks_of};
+ghost use Rattle.metric_messages.specs.Marks.{certificate_marks, chosen, entry_in, is_field, kind_name, known_names, marks_in_catalogue, marks_in_config, marks_of};
 ghost use Rattle.metric_messages.specs.Tables.{catalogue_table, config_table, header_of, in_catalogue, in_config};
 
 use crate::spot::{Spot, TableFault};
 use crate::standing::{
     has_word, headers, is_header, is_listed, is_nth, is_other, is_plain, is_table,
 };
-use metric_catalogue::{CatalogueDefect, CataloguePlace, CatalogueSpot};
+use metric_catalogue::{CatalogueDefect, CatalogueField, CataloguePlace, CatalogueSpot};
 use metric_cert::CertList;
 use metric_contents::Kind;
 use metric_views::{ConfigField, ConfigPlace, ConfigSpot, ViewDefect, kind_names};
@@ -61,7 +61,17 @@ fn marks_in_catalogue(
             before,
             rest,
         ),
-        _ => is_field(spot.entry, spot.field.name(), before, rest),
+        _ => is_field(entry_in(spot), spot.field.name(), before, rest),
+    }
+}
+
+// The entry of a spot, where its field is a list.
+pub(crate) fn entry_in(spot: CatalogueSpot) -> Option<u32>
+    ensures { result ≡ entry_in spot }
+{
+    match spot.field {
+        CatalogueField::Budget => None,
+        _ => spot.entry,
     }
 }
 
@@ -82,6 +92,7 @@ fn catalogue_table(place: CataloguePlace, plain: bool, before: &[u8], rest: &[u8
         CataloguePlace::Meter(_) => is_table("[[meter]]", plain, rest),
         CataloguePlace::Instrument(_) => is_table("[[meter.instrument]]", plain, rest),
         CataloguePlace::Key(_, _) => is_table("[[meter.instrument.key]]", plain, rest),
+        CataloguePlace::SharedKey(_) => is_table("[[key]]", plain, rest),
         CataloguePlace::Recorder(_) => is_table("[[recorder]]", plain, rest),
         CataloguePlace::Budget(_, _) => is_table("[[recorder.budget]]", plain, rest),
     }
@@ -106,6 +117,7 @@ fn in_catalogue(place: CataloguePlace, before: &[u8], rest: &[u8]) -> bool
                     rest,
                 )
         }
+        CataloguePlace::SharedKey(number) => is_nth("", "[[key]]", number as usize, before, rest),
         CataloguePlace::Recorder(number) => is_nth("", RECORDER, number as usize, before, rest),
         CataloguePlace::Budget(number, budget) => {
             is_nth("", RECORDER, number as usize, before, rest)

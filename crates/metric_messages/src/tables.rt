@@ -1,4 +1,5 @@
 //! What stands in a TOML table.
+use crate::near::nearest;
 use toml::{Table, Value};
 
 // The values of a field that is a list, or none.
@@ -23,6 +24,50 @@ pub(crate) fn name_in(table: &Table) -> Option<&str> {
         Some(value) => value.as_str(),
         None => None,
     }
+}
+
+// The id that a table gives itself.
+pub(crate) fn id_in(table: &Table) -> Option<&str> {
+    table.get("id")?.as_str()
+}
+
+// The first id of a key that is near a text.
+pub(crate) fn near_id<'v>(top: &'v Table, text: &str) -> Option<&'v str> {
+    for key in list_in(top, "key") {
+        if let Some(id) = near(text_in(key, "id"), text) {
+            return Some(id);
+        }
+    }
+    None
+}
+
+// The text that a field of a table is.
+fn text_in<'v>(value: &'v Value, name: &str) -> Option<&'v str> {
+    value.as_table()?.get(name)?.as_str()
+}
+
+// The first name of an instrument that is near a text.
+pub(crate) fn near_instrument<'v>(top: &'v Table, text: &str) -> Option<&'v str> {
+    for meter in list_in(top, "meter") {
+        if let Some(name) = near_of_meter(meter, text) {
+            return Some(name);
+        }
+    }
+    None
+}
+
+fn near_of_meter<'v>(meter: &'v Value, text: &str) -> Option<&'v str> {
+    for instrument in instruments_of(meter) {
+        if let Some(name) = near(text_in(instrument, "name"), text) {
+            return Some(name);
+        }
+    }
+    None
+}
+
+// A word, where it is near a text.
+fn near<'v>(word: Option<&'v str>, text: &str) -> Option<&'v str> {
+    nearest(text, &[word?])
 }
 
 // The first field, by name, that is none of these.

@@ -1,5 +1,5 @@
 -- What a command reads of the parts of its input.
-use Rattle.std.specs.Prelude.{◌≡◌, ℕ, ◌+◌, if◌then◌else◌, List, length, None, option_map}
+use Rattle.std.specs.Prelude.{◌≡◌, ℕ, ◌+◌, false, if◌then◌else◌, List, length, None, option_map}
 use Rattle.metric_parts.specs.declared.needs.Needs.{Needs}
 use Rattle.metric_parts.specs.declared.parts.Parts.{Parts}
 use Rattle.metric_parts.specs.Input.{Contents, before_script, IsInput}
@@ -14,6 +14,7 @@ script_of parts lines = record { first_line = length (before_script parts) + 2; 
 abbrev pub read_of : Needs → Contents → Parts
 read_of needs parts = record {
   catalogue = joined parts.catalogue;
+  opens = false;
   config = joined parts.config;
   certificate = if needs.certificate then option_map joined parts.certificate else None;
   script = if needs.script then option_map (script_of parts) parts.script else None;

@@ -7,6 +7,8 @@ use metric_base::Text;
 pub struct Parts<'a> {
     /// The catalogue.
     pub catalogue: Text,
+    /// Whether the catalogue may be of format 3.
+    pub opens: bool,
     /// The config.
     pub config: Text,
     /// The certificate, where it is needed.
@@ -20,6 +22,7 @@ impl Drop for Parts<'_> {
     fn drop(self) {
         let Parts {
             catalogue: _catalogue,
+            opens: _,
             config: _config,
             certificate: _certificate,
             script: _,

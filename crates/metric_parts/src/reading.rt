@@ -57,6 +57,7 @@ fn read<'a>(
 {
     Ok(Parts {
         catalogue: joined(alloc, pieces.catalogue)?,
+        opens: false,
         config: joined(alloc, pieces.config)?,
         certificate: joined_if(alloc, needs.certificate, pieces.certificate)?,
         script: match pieces.script {

@@ -163,7 +163,7 @@
 //!
 //! What `open` does, one call at a time:
 //!
-//! 1. [`Catalogue::read`] and [`Config::read`] return the first fault, a [`CatalogueFault`] or a [`ViewFault`] with its
+//! 1. [`Catalogue::open`] and [`Config::read`] return the first fault, a [`CatalogueFault`] or a [`ViewFault`] with its
 //!    place.
 //! 2. [`make`] returns a [`Certificate`], or a [`MakeFault`]. `Certificate::write` and `Certificate::read` take it from
 //!    one machine to another.

@@ -1,7 +1,7 @@
 -- What texts come to: a certified plan, or why none.
 use Rattle.std.specs.Prelude.{◌≡◌, ℕ, Bool, true, false, List, [], map, nat_le}
 use Rattle.std.specs.Prelude.{Some, Result, Ok, Err}
-use Rattle.metric_catalogue.specs.Catalogues.{catalogue_of}
+use Rattle.metric_catalogue.specs.Catalogues.{catalogue_of, opened_of}
 use Rattle.metric_contents.specs.declared.contents.Contents.{Contents}
 use Rattle.metric_catalogue.specs.declared.fault.CatalogueFault.{CatalogueFault}
 use Rattle.metric_views.specs.Configs.{config_of}
@@ -29,10 +29,10 @@ use Rattle.metric_setup.specs.declared.fault.SetupFault.TheVariants.{Catalogue, 
 use Rattle.metric_setup.specs.declared.fault.SetupFault.TheVariants.{Certificate as BadCertificate}
 use Rattle.metric_setup.specs.declared.fault.SetupFault.TheVariants.{Check, Memory}
 
--- The texts are this catalogue and this config.
-pub record IsDeclared (catalogue config : List ℕ) (contents : Contents) (setup : Setup)
-    : Type 0 where
-  pub is_catalogue : catalogue_of catalogue ≡ Ok contents
+-- The catalogue that was read and the config are these.
+pub record IsDeclared (read : Result Contents CatalogueFault) (config : List ℕ)
+    (contents : Contents) (setup : Setup) : Type 0 where
+  pub is_catalogue : read ≡ Ok contents
   pub is_config : config_of config ≡ Ok setup
 
 -- whether each stream is by product: it is wherever the product over the keys
@@ -45,15 +45,16 @@ bounded_flags contents streams = map (λ s. nat_le (product_of contents s) s.lim
 pub record IsCertifiedPlan (catalogue config : List ℕ) (plan : PlanValue) : Type 0 where
   pub contents : Contents
   pub setup : Setup
-  pub declared : IsDeclared catalogue config contents setup
+  pub declared : IsDeclared (opened_of catalogue) config contents setup
   pub safe : IsSafe contents setup
   pub planned : plan
       ≡ plan_of true (bounded_flags contents (streams_of contents setup)) contents setup
 
 -- The catalogue is right, and the config has this first fault.
-pub record IsFaultyConfig (catalogue config : List ℕ) (fault : ViewFault) : Type 0 where
+pub record IsFaultyConfig (read : Result Contents CatalogueFault) (config : List ℕ)
+    (fault : ViewFault) : Type 0 where
   pub contents : Contents
-  pub is_catalogue : catalogue_of catalogue ≡ Ok contents
+  pub is_catalogue : read ≡ Ok contents
   pub first : config_of config ≡ Err fault
 
 -- This is the first part of safety that fails.
@@ -61,20 +62,26 @@ abbrev pub IsUnsafe : Contents → Setup → MakeFault → Type 0
 IsUnsafe contents setup fault = UnsafeFinds contents setup (Some fault)
 
 -- The catalogue and the config are right, and not safe together.
-pub record IsUnsafeSetup (catalogue config : List ℕ) (fault : MakeFault) : Type 0 where
+pub record IsUnsafeSetup (read : Result Contents CatalogueFault) (config : List ℕ)
+    (fault : MakeFault) : Type 0 where
   pub contents : Contents
   pub setup : Setup
-  pub declared : IsDeclared catalogue config contents setup
+  pub declared : IsDeclared read config contents setup
   pub found : IsUnsafe contents setup fault
 
 -- # first fault of two texts (profile)
 -- Of the catalogue, then of the config, then the first part of safety that fails.
 abbrev pub IsFirstFault : SetupFault → List ℕ → List ℕ → Type 0
-IsFirstFault (Catalogue fault) catalogue config = catalogue_of catalogue ≡ Err fault
-IsFirstFault (Config fault) catalogue config = IsFaultyConfig catalogue config fault
-IsFirstFault (Unsafe fault) catalogue config = IsUnsafeSetup catalogue config fault
+IsFirstFault (Catalogue fault) catalogue config = opened_of catalogue ≡ Err fault
+IsFirstFault (Config fault) catalogue config = IsFaultyConfig (opened_of catalogue) config fault
+IsFirstFault (Unsafe fault) catalogue config = IsUnsafeSetup (opened_of catalogue) config fault
 IsFirstFault Memory catalogue config = Unit {0}
 IsFirstFault _ catalogue config = ⊥
+
+-- what a text of a catalogue is read as, or is opened as where it may be of format 3
+abbrev pub read_or_opened : Bool → List ℕ → Result Contents CatalogueFault
+read_or_opened true text = opened_of text
+read_or_opened false text = catalogue_of text
 
 -- a catalogue, or its first fault, unless memory ran out
 abbrev pub ReadsCatalogue : Result Contents SetupFault → Result Contents CatalogueFault → Type 0
@@ -117,7 +124,7 @@ Plans (Err _) contents setup certificate = ⊥
 -- The texts are this catalogue, this config and this certificate.
 pub record IsClaimed (catalogue config certificate : List ℕ) (contents : Contents) (setup : Setup)
     (claims : Certificate) : Type 0 where
-  pub declared : IsDeclared catalogue config contents setup
+  pub declared : IsDeclared (opened_of catalogue) config contents setup
   pub is_certificate : certificate_from certificate ≡ Ok claims
 
 -- # plan of three texts (profile)
@@ -136,7 +143,7 @@ pub record IsFaultyCertificate (catalogue config certificate : List ℕ) (fault 
     : Type 0 where
   pub contents : Contents
   pub setup : Setup
-  pub declared : IsDeclared catalogue config contents setup
+  pub declared : IsDeclared (opened_of catalogue) config contents setup
   pub first : certificate_from certificate ≡ Err fault
 
 -- The texts are right, and this is the first fault that the certificate's check finds, with the
@@ -154,9 +161,9 @@ pub record IsRefusedCheck (catalogue config certificate : List ℕ) (fault : Cla
 -- finds.
 abbrev pub IsFirstClaimFault : SetupFault → List ℕ → List ℕ → List ℕ → Type 0
 IsFirstClaimFault (Catalogue fault) catalogue config certificate =
-    catalogue_of catalogue ≡ Err fault
+    opened_of catalogue ≡ Err fault
 IsFirstClaimFault (Config fault) catalogue config certificate =
-    IsFaultyConfig catalogue config fault
+    IsFaultyConfig (opened_of catalogue) config fault
 IsFirstClaimFault (BadCertificate fault) catalogue config certificate =
     IsFaultyCertificate catalogue config certificate fault
 IsFirstClaimFault (Check fault) catalogue config certificate =

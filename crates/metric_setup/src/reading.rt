@@ -1,8 +1,8 @@
 //! A catalogue, a config and a certificate, read.
-ghost use Rattle.metric_catalogue.specs.Catalogues.{catalogue_of};
+ghost use Rattle.metric_base.specs.Steps.{Gives};
 ghost use Rattle.metric_cert.specs.Certificates.{certificate_from};
 ghost use Rattle.metric_views.specs.Configs.{config_of};
-ghost use Rattle.metric_setup.specs.Setups.{ReadsCatalogue, ReadsCertificate, ReadsConfig};
+ghost use Rattle.metric_setup.specs.Setups.{ReadsCatalogue, ReadsCertificate, ReadsConfig, read_or_opened};
 
 use crate::fault::SetupFault;
 use metric_catalogue::{Catalogue, CatalogueFault};
@@ -10,18 +10,28 @@ use metric_cert::{CertFault, Certificate};
 use metric_views::{Config, ViewFault};
 use std::alloc::Global;
 
-/// The catalogue that a text is.
+/// The catalogue that a text of format 1 or 2 is, or one of format 3 where such a text may be opened too.
 ///
 /// # Errors
 ///
 /// [`SetupFault::Catalogue`] with the first fault of the text. [`SetupFault::Memory`] may stand in its place.
-pub fn catalogue_of(alloc: Global, text: &str) -> Result<Catalogue, SetupFault>
-    ensures { ReadsCatalogue result (catalogue_of text.now) }
+pub fn catalogue_of(alloc: Global, text: &str, opens: bool) -> Result<Catalogue, SetupFault>
+    ensures { ReadsCatalogue result (read_or_opened opens text.now) }
 {
-    match Catalogue::read(alloc, text) {
+    match read_or_opened(alloc, text, opens) {
         Ok(catalogue) => Ok(catalogue),
         Err(CatalogueFault::Memory) => Err(SetupFault::Memory),
         Err(fault) => Err(SetupFault::Catalogue(fault)),
+    }
+}
+
+fn read_or_opened(alloc: Global, text: &str, opens: bool) -> Result<Catalogue, CatalogueFault>
+    ensures { Gives CatalogueFault.Memory result (read_or_opened opens text.now) }
+{
+    if opens {
+        Catalogue::open(alloc, text)
+    } else {
+        Catalogue::read(alloc, text)
     }
 }
 

@@ -31,7 +31,7 @@ pub fn certified_plan(
     ensures first { IfErr result (λ fault.
         IsFirstFault fault catalogue_text.now config_text.now) }
 {
-    let catalogue = catalogue_of(alloc, catalogue_text)?;
+    let catalogue = catalogue_of(alloc, catalogue_text, true)?;
     let config = config_of(alloc, config_text)?;
     let certificate = certificate_for(alloc, &catalogue, &config)?;
     checked_plan(alloc, catalogue, config, &certificate)

@@ -29,7 +29,7 @@ pub fn vouched_plan(
     ensures first { IfErr result (λ fault.
         IsFirstClaimFault fault catalogue_text.now config_text.now certificate_text.now) }
 {
-    let catalogue = catalogue_of(alloc, catalogue_text)?;
+    let catalogue = catalogue_of(alloc, catalogue_text, true)?;
     let config = config_of(alloc, config_text)?;
     let certificate = certificate_of(alloc, certificate_text)?;
     plan_by(alloc, catalogue, config, &certificate)

@@ -35,7 +35,7 @@ pub(crate) fn declared_of(
     ensures first { IfErr result (λ fault.
         IsFirstFault fault catalogue_text.now config_text.now) }
 {
-    let catalogue = catalogue_of(alloc, catalogue_text)?;
+    let catalogue = catalogue_of(alloc, catalogue_text, true)?;
     let config = config_of(alloc, config_text)?;
     Ok(Declared { catalogue, config })
 }

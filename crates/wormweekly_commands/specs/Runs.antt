@@ -1,9 +1,8 @@
 -- What running a request does.
 use Rattle.std.specs.Prelude.{◌≡◌, ◌≢◌, ◌⊎◌, ℕ, Bool, true, not, List, Option, Some, None, Result, Ok}
 use Rattle.std.specs.Prelude.{Err, IfErr, IfOk, IfSome, IsErr, IsErrAnd, IsSomeAnd, OnErr, is_some, string_bytes}
-use Rattle.metric_short.specs.declared.fault.ShortFault.{ShortFault}
-use Rattle.metric_short.specs.declared.fault.ShortFault.TheVariants as short
-use Rattle.metric_short.specs.Expansions.{IsExpansion, expansion_of}
+use Rattle.metric_contents.specs.declared.contents.Contents.{Contents}
+use Rattle.metric_catalogue.specs.Catalogues.{catalogue_of, opened_of}
 use Rattle.metric_parts.specs.declared.parts.Parts.{Parts}
 use Rattle.metric_command_lines.specs.declared.wormweekly.request.Files.{Files}
 use Rattle.metric_command_lines.specs.declared.wormweekly.request.Request.{Request}
@@ -13,6 +12,7 @@ use Rattle.metric_command_lines.specs.declared.wormweekly.request.Task.TheVarian
 use Rattle.metric_exposition.specs.declared.dialect.Dialect.{Dialect}
 use Rattle.metric_kit_commands.specs.Commands.{SinkRun}
 use Rattle.metric_kit_commands.specs.declared.fault.KitFault.TheVariants.{Memory}
+use Rattle.metric_kit_commands.specs.declared.fault.KitFault.TheVariants as kit
 use Rattle.wormweekly_commands.specs.Answers.{HasReaders, IsAnswer, IsAnswerFault}
 use Rattle.wormweekly_commands.specs.Comparing.{RunsDiff}
 use Rattle.wormweekly_commands.specs.Delivered.{IsDelivered, IsDeliveredAnswer, answer_status}
@@ -32,6 +32,7 @@ use Rattle.wormweekly_commands.specs.declared.fault.ConsoleFault.TheVariants.{Ov
 use Rattle.wormweekly_commands.specs.declared.fault.ConsoleFault.TheVariants as faults
 use Rattle.wormweekly_commands.specs.declared.fault.Role.{Role}
 use Rattle.wormweekly_commands.specs.declared.fault.Role.TheVariants.{Catalogue, Config, OldCatalogue, OldConfig}
+use Rattle.wormweekly_commands.specs.declared.folder.Unread.TheVariants as unread
 use Rattle.wormweekly_commands.specs.declared.parts.Texts.{Texts}
 use Rattle.wormweekly_commands.specs.declared.report.Report.{Report}
 
@@ -255,33 +256,37 @@ pub record RunsCommand (known : Known) (request : Request) (writing : Writing)
   pub runs : RunsFiles known request writing sink end
   pub is_status : status ≡ exit_of end
 
--- The catalogue that the file is of format 3 is expanded, and the expansion written.
+-- The text declares what the catalogue does, as a file of format 1 or 2.
+pub record IsInFull (source printed : List ℕ) : Type 0 where
+  pub contents : Contents
+  pub opened : opened_of source ≡ Ok contents
+  pub reads : catalogue_of printed ≡ Ok contents
+
+-- The catalogue that the file is is written in full.
 pub record IsExpanded (known : Known) (files : Files) (writing : Writing) : Type 0 where
   pub source : List ℕ
   pub printed : List ℕ
   pub is_held : IsHeld known.held files.catalogue source
-  pub is_expansion : IsExpansion source printed
+  pub is_in_full : IsInFull source printed
   pub delivered : IsDelivered files.output printed writing.made writing.made_after
       writing.contents writing.contents_after
   pub apart : IsSomeAnd files.output (λ path. path ≡ files.catalogue) → ⊥
 
--- The first fault of the catalogue that the file is.
-pub record IsUnexpanded (known : Known) (files : Files) (fault : ShortFault) : Type 0 where
+-- The fault is the first of a catalogue; or it is too large in full, or memory ran out.
+abbrev pub IsFullFault : List ℕ → ConsoleFault → Type 0
+IsFullFault source (Kit (kit.Catalogue fault)) = opened_of source ≡ Err fault
+IsFullFault source (Unread Catalogue unread.TooLarge) = Unit {0}
+IsFullFault source (Unread Catalogue unread.Memory) = Unit {0}
+IsFullFault source _ = ⊥
+
+-- The catalogue that the file is is refused, and nothing is written.
+pub record RefusesFull (known : Known) (files : Files) (writing : Writing) (status : ℕ) : Type 0 where
   pub source : List ℕ
+  pub fault : ConsoleFault
   pub is_held : IsHeld known.held files.catalogue source
-  pub first : fault ≢ short.Memory → expansion_of source ≡ Err fault
-
--- 4 when out of memory, else 3
-abbrev pub short_status : ShortFault → ℕ
-short_status short.Memory = 4
-short_status _ = 3
-
--- The catalogue is refused by its first fault, and nothing is written.
-pub record RefusesShort (known : Known) (files : Files) (writing : Writing) (status : ℕ) : Type 0 where
-  pub fault : ShortFault
-  pub is_unexpanded : IsUnexpanded known files fault
+  pub first : IsFullFault source fault
   pub untouched : IsUntouched writing
-  pub is_status : status ≡ short_status fault
+  pub is_status : status ≡ status_of fault
 
 -- A file cannot be read or written.
 pub record StopsExpansion (writing : Writing) (status : ℕ) : Type 0 where
@@ -291,12 +296,12 @@ pub record StopsExpansion (writing : Writing) (status : ℕ) : Type 0 where
   pub is_status : status ≡ status_of fault
 
 -- # what expanding does (profile) [ExpandsFile]
--- The expansion is written; or the catalogue is refused by its first fault, and nothing is written; or a file is not
--- read or not written. The exit status says which.
+-- The catalogue is written in full; or it is refused by its first fault, and nothing is written; or a file is not read
+-- or not written. The exit status says which.
 abbrev pub ExpandsFile : Known → Files → Writing → ℕ → Type 0
 ExpandsFile known files writing status =
     ((status ≡ 0) × IsExpanded known files writing)
-    ⊎ (RefusesShort known files writing status ⊎ StopsExpansion writing status)
+    ⊎ (RefusesFull known files writing status ⊎ StopsExpansion writing status)
 
 -- # what running a request does (profile)
 -- A catalogue is expanded, or another command run, and the end is told by the exit status.

@@ -1,26 +1,24 @@
-//! The command that expands a catalogue of format 3.
-ghost use Rattle.std.specs.Prelude.{◌≡◌, ◌≢◌, Err, IfOk, IsSomeAnd, OnErr, OnOk, false};
-ghost use Rattle.metric_short.specs.Expansions.{expansion_of};
+//! The command that prints a catalogue in full.
+ghost use Rattle.std.specs.Prelude.{◌≡◌, Ok, IfErr, IfOk, IsSomeAnd, OnOk, false, string_bytes};
+ghost use Rattle.metric_catalogue.specs.Catalogues.{catalogue_of};
 ghost use Rattle.wormweekly_commands.specs.Readings.{IsHeld};
-ghost use Rattle.wormweekly_commands.specs.Runs.{ExpandsFile, IsUnexpanded, known_by, short_status, writing};
+ghost use Rattle.wormweekly_commands.specs.Runs.{ExpandsFile, IsFullFault, IsInFull, known_by, writing};
 
-use crate::delivering::{print, put};
+use crate::delivering::put;
 use crate::fault::{ConsoleFault, Role};
-use crate::folder::Folder;
-use crate::message::Message;
-use crate::parts::text_at;
-use crate::shown_path::shown;
-use crate::telling::{source_of, stop};
+use crate::folder::{Folder, Unread};
+use crate::parts::{Texts, text_at};
+use crate::telling::stop;
 use metric_base::Text;
-use metric_catalogue::CatalogueFault;
+use metric_catalogue::{Catalogue, CatalogueFault};
 use metric_command_lines::{Files, Request};
 use metric_io::Sink;
-use metric_messages::diagnose_catalogue;
-use metric_short::{ShortFault, expand, told};
-use std::alloc::{AllocError, Global};
+use metric_kit_commands::KitFault;
+use metric_parts::Parts;
+use std::alloc::Global;
 
-/// Expands the catalogue of a request, writes the expansion where the request wants it, and tells on `errors` why it
-/// stops. The exit status.
+/// Writes the catalogue of a request in full where the request wants it, and tells on `errors` why it stops. The exit
+/// status.
 pub(crate) fn run_expand<F: Folder, W: Sink, E: Sink>(
     alloc: Global,
     request: &Request,
@@ -31,15 +29,16 @@ pub(crate) fn run_expand<F: Folder, W: Sink, E: Sink>(
     ensures { ExpandsFile (known_by F.held F.same folder.old) request.now.files
         (writing F.made W.contents folder.old folder.new sink.old sink.new) result }
 {
-    match catalogue_of(alloc, folder, &request.files) {
-        Ok(source) => expand_source(alloc, request, &source, folder, sink, errors),
+    match source_of(alloc, folder, &request.files) {
+        Ok(texts) => expand_source(alloc, request, &texts, folder, sink, errors),
         Err(fault) => stop(alloc, request, None, fault, errors),
     }
 }
 
 // The text of the catalogue, unless the file to write to is the same.
-fn catalogue_of<F: Folder>(alloc: Global, folder: &F, files: &Files) -> Result<Text, ConsoleFault>
-    ensures read { IfOk result (IsHeld (F.held folder.now) files.now.catalogue) }
+fn source_of<F: Folder>(alloc: Global, folder: &F, files: &Files) -> Result<Texts, ConsoleFault>
+    ensures read { IfOk result (λ texts.
+        IsHeld (F.held folder.now) files.now.catalogue texts.parts.catalogue) }
     ensures apart { OnOk result
         (IsSomeAnd files.now.output (λ path. path ≡ files.now.catalogue) → ⊥) }
 {
@@ -48,7 +47,27 @@ fn catalogue_of<F: Folder>(alloc: Global, folder: &F, files: &Files) -> Result<T
             role: Role::Catalogue,
         });
     }
-    text_at(alloc, folder, &files.catalogue, Role::Catalogue)
+    let catalogue = text_at(alloc, folder, &files.catalogue, Role::Catalogue)?;
+    Ok(texts_of_catalogue(alloc, catalogue))
+}
+
+// The text of a catalogue, with no other.
+fn texts_of_catalogue(alloc: Global, catalogue: Text) -> Texts
+    ensures { result.parts.catalogue ≡ catalogue }
+{
+    let parts = Parts {
+        catalogue,
+        opens: true,
+        config: Text::from_string(String::new(alloc)),
+        certificate: None,
+        script: None,
+    };
+    Texts {
+        old: None,
+        parts,
+        script: None,
+        accepted: None,
+    }
 }
 
 fn is_overwriting<F: Folder>(folder: &F, files: &Files) -> bool
@@ -61,63 +80,64 @@ fn is_overwriting<F: Folder>(folder: &F, files: &Files) -> bool
     }
 }
 
-// Expands a catalogue that was read.
+// Writes a catalogue that was read in full.
 fn expand_source<F: Folder, W: Sink, E: Sink>(
     alloc: Global,
     request: &Request,
-    source: &Text,
+    texts: &Texts,
     folder: &mut F,
     sink: &mut W,
     errors: &mut E,
 ) -> u8
-    requires read { IsHeld (F.held folder.old) request.now.files.catalogue source.now }
+    requires read { IsHeld (F.held folder.old) request.now.files.catalogue
+        texts.now.parts.catalogue }
     requires apart { IsSomeAnd request.now.files.output (λ path. path ≡ request.now.files.catalogue)
         → ⊥ }
     ensures { ExpandsFile (known_by F.held F.same folder.old) request.now.files
         (writing F.made W.contents folder.old folder.new sink.old sink.new) result }
 {
-    match expand(alloc, source.as_str()) {
+    match full_of(alloc, texts.parts.catalogue.as_str()) {
         Ok(printed) => {
             match put(&request.files.output, printed.as_bytes(), folder, sink) {
                 Ok(()) => 0,
                 Err(fault) => stop(alloc, request, None, fault, errors),
             }
         }
-        Err(fault) => stop_short(alloc, &request.files, source, fault, errors),
+        Err(fault) => stop(alloc, request, Some(texts), fault, errors),
     }
 }
 
-// Tells why a catalogue is not expanded, and gives the exit status, which stands whatever becomes of the telling.
-fn stop_short<E: Sink>(
-    alloc: Global,
-    files: &Files,
-    source: &Text,
-    fault: ShortFault,
-    errors: &mut E,
-) -> u8
-    ensures { result ≡ short_status fault }
+// The catalogue that a text is, in full.
+fn full_of(alloc: Global, text: &str) -> Result<String, ConsoleFault>
+    ensures ok { IfOk result (λ printed. IsInFull text.now (string_bytes printed)) }
+    ensures first { IfErr result (IsFullFault text.now) }
 {
-    let _told = match short_message(alloc, files, source, fault) {
-        Ok(told) => print(errors, told.text.as_str()),
-        Err(_) => print(errors, "out of memory\n"),
-    };
-    match fault {
-        ShortFault::Memory => 4,
-        _ => 3,
+    match Catalogue::open(alloc, text) {
+        Ok(catalogue) => in_full(alloc, text, &catalogue),
+        Err(CatalogueFault::Memory) => Err(unread(Unread::Memory)),
+        Err(fault) => Err(ConsoleFault::Kit(KitFault::Catalogue(fault))),
     }
 }
 
-fn short_message(
-    alloc: Global,
-    files: &Files,
-    source: &Text,
-    fault: ShortFault,
-) -> Result<Message, AllocError> {
-    if fault == ShortFault::NotToml {
-        let source = source_of(&files.catalogue, source);
-        let told = diagnose_catalogue(alloc, source, CatalogueFault::NotToml);
-        return Message::diagnosed(alloc, told);
+// The catalogue that a text was opened as, in full.
+fn in_full(alloc: Global, text: &str, catalogue: &Catalogue) -> Result<String, ConsoleFault>
+    ensures ok { IfOk result (λ printed. catalogue_of (string_bytes printed) ≡ Ok catalogue.now) }
+    ensures first { IfErr result (IsFullFault text.now) }
+{
+    // Only the contract speaks of the text.
+    let _ = text;
+    match catalogue.in_full(alloc) {
+        Ok(Some(printed)) => Ok(printed),
+        Ok(None) => Err(unread(Unread::TooLarge)),
+        Err(_) => Err(unread(Unread::Memory)),
     }
-    let words = told(alloc, source.as_str(), fault)?;
-    Message::of_file(alloc, shown(files.catalogue.as_str()), words.as_str())
+}
+
+fn unread(cause: Unread) -> ConsoleFault
+    ensures { result ≡ ConsoleFault.Unread Role.Catalogue cause }
+{
+    ConsoleFault::Unread {
+        role: Role::Catalogue,
+        cause,
+    }
 }

@@ -131,13 +131,13 @@ fn unread_status(cause: Unread) -> u8
 {
     match cause {
         Unread::Memory => 4,
-        Unread::Unexpanded
-        | Unread::Missing
+        Unread::Missing
         | Unread::Directory
         | Unread::Denied
         | Unread::TooLong
         | Unread::Unreadable
-        | Unread::NotText => 3,
+        | Unread::NotText
+        | Unread::TooLarge => 3,
     }
 }
 

@@ -20,8 +20,8 @@ pub enum Unread {
     Unreadable,
     /// It is no UTF-8.
     NotText,
-    /// It is a catalogue of format 3 that has a fault.
-    Unexpanded,
+    /// It is a catalogue whose values are too many in full.
+    TooLarge,
     /// Out of memory.
     Memory,
 }
@@ -36,8 +36,8 @@ impl Unread {
             Unread::TooLong => "it has more than 67108864 bytes",
             Unread::Unreadable => "it cannot be read, or has more than 67108864 bytes",
             Unread::NotText => "it is not UTF-8",
-            Unread::Unexpanded => {
-                "it is a catalogue of format 3 with a fault, which 'wormweekly expand' tells"
+            Unread::TooLarge => {
+                "in full it has more than 8388608 bytes of values, with 16 more for each"
             }
             Unread::Memory => "out of memory",
         }

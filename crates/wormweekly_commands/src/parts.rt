@@ -1,22 +1,18 @@
 //! The texts of a request's files.
-ghost use Rattle.std.specs.Prelude.{◌≡◌, IfOk, IfErr};
-ghost use Rattle.wormweekly_commands.specs.Readings.{AreOld, ArePair, AreTexts, IsHeld, IsMeant, MayBeHeld};
+ghost use Rattle.std.specs.Prelude.{IfOk, IfErr};
+ghost use Rattle.wormweekly_commands.specs.Readings.{AreOld, ArePair, AreTexts, IsHeld, MayBeHeld};
 ghost use Rattle.wormweekly_commands.specs.Faults.{IsUnread};
 
 use crate::fault::{ConsoleFault, Role};
-use crate::folder::{Folder, Unread};
-use crate::shown_path::shown;
+use crate::folder::Folder;
 use metric_base::Text;
 use metric_command_lines::Files;
 use metric_parts::Parts;
-use metric_short::{ShortFault, in_full};
-use std::alloc::{AllocError, Global};
+use std::alloc::Global;
 
 /// The texts of a request's files: the old parts of a comparison, the parts that a command reads, the script, and the
 /// changes that are accepted.
 pub(crate) struct Texts {
-    // The name of the catalogue's file, which says where its text is an expansion.
-    pub name: Text,
     pub old: Option<Parts<'static>>,
     pub parts: Parts<'static>,
     pub script: Option<Text>,
@@ -27,7 +23,6 @@ impl Drop for Texts {
     fn drop(self) {
         let Texts {
             old: _old,
-            name: _name,
             parts: _parts,
             script: _script,
             accepted: _accepted,
@@ -45,22 +40,19 @@ pub(crate) fn texts_of<F: Folder>(
     ensures unread { IfErr result IsUnread }
 {
     let old = old_parts(alloc, folder, files)?;
-    let Named {
-        text: catalogue,
-        name,
-    } = catalogue_at(alloc, folder, &files.catalogue, Role::Catalogue)?;
+    let catalogue = text_at(alloc, folder, &files.catalogue, Role::Catalogue)?;
     let config = text_at(alloc, folder, &files.config, Role::Config)?;
     let certificate = optional_text(alloc, folder, &files.certificate, Role::Certificate)?;
     let accepted = optional_text(alloc, folder, &files.accepted, Role::Accepted)?;
     let script = optional_text(alloc, folder, &files.script, Role::Script)?;
     let parts = Parts {
         catalogue,
+        opens: true,
         config,
         certificate,
         script: None,
     };
     Ok(Texts {
-        name,
         old,
         parts,
         script,
@@ -94,10 +86,11 @@ fn parts_at<F: Folder>(
     ensures read { IfOk result (ArePair (F.held folder.now) catalogue.now config.now) }
     ensures unread { IfErr result IsUnread }
 {
-    let catalogue = catalogue_at(alloc, folder, catalogue, Role::OldCatalogue)?;
+    let catalogue = text_at(alloc, folder, catalogue, Role::OldCatalogue)?;
     let config = text_at(alloc, folder, config, Role::OldConfig)?;
     Ok(Parts {
-        catalogue: catalogue.text,
+        catalogue,
+        opens: true,
         config,
         certificate: None,
         script: None,
@@ -118,55 +111,6 @@ fn optional_text<F: Folder>(
         Some(path) => Ok(Some(text_at(alloc, folder, path, role)?)),
         None => Ok(None),
     }
-}
-
-// The text of a catalogue, and the name of its file.
-#[derive(Drop)]
-struct Named {
-    text: Text,
-    name: Text,
-}
-
-// The text of a catalogue in full: one of format 3 is read as its expansion.
-fn catalogue_at<F: Folder>(
-    alloc: Global,
-    folder: &F,
-    path: &Text,
-    role: Role,
-) -> Result<Named, ConsoleFault>
-    ensures read { IfOk result (λ named. IsMeant (F.held folder.now) path.now named.text) }
-    ensures unread { IfErr result IsUnread }
-{
-    let text = text_at(alloc, folder, path, role)?;
-    let full = match in_full(alloc, text) {
-        Ok(full) => full,
-        Err(ShortFault::Memory) => return Err(unread(role, Unread::Memory)),
-        Err(_) => return Err(unread(role, Unread::Unexpanded)),
-    };
-    match name_of(alloc, path, full.is_expanded) {
-        Ok(name) => Ok(Named {
-            text: full.text,
-            name,
-        }),
-        Err(_) => Err(unread(role, Unread::Memory)),
-    }
-}
-
-// What a catalogue is called where its lines are told.
-fn name_of(alloc: Global, path: &Text, is_expanded: bool) -> Result<Text, AllocError> {
-    if is_expanded {
-        let shown = shown(path.as_str());
-        let string = format!(in alloc; "{shown}, expanded")?;
-        Ok(Text::from_string(string))
-    } else {
-        Text::new(alloc, path.as_str())
-    }
-}
-
-fn unread(role: Role, cause: Unread) -> ConsoleFault
-    ensures { IsUnread result }
-{
-    ConsoleFault::Unread { role, cause }
 }
 
 // The text of a file.

@@ -89,6 +89,7 @@ pub(crate) fn scripted<'a>(
 {
     Ok(Parts {
         catalogue: Text::new(alloc, parts.catalogue.as_str())?,
+        opens: parts.opens,
         config: Text::new(alloc, parts.config.as_str())?,
         certificate: copied(alloc, &parts.certificate)?,
         script: Some(Script::of_lines(lines)),

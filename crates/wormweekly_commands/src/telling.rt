@@ -265,7 +265,7 @@ pub(crate) fn kit_message(
 ) -> Result<Message, AllocError> {
     match fault {
         KitFault::Catalogue(fault) => {
-            let source = source_of(&texts.name, &texts.parts.catalogue);
+            let source = source_of(&files.catalogue, &texts.parts.catalogue);
             Message::diagnosed(alloc, diagnose_catalogue(alloc, source, fault))
         }
         KitFault::Config(fault) => {
@@ -331,7 +331,7 @@ pub(crate) fn source_of<'t>(path: &'t Text, text: &'t Text) -> NamedText<'t> {
 pub(crate) fn pair_of<'t>(files: &'t Files, texts: &'t Texts, declared: &'t Declared) -> Pair<'t> {
     Pair {
         catalogue: &declared.catalogue,
-        catalogue_source: source_of(&texts.name, &texts.parts.catalogue),
+        catalogue_source: source_of(&files.catalogue, &texts.parts.catalogue),
         config: &declared.config,
         config_source: source_of(&files.config, &texts.parts.config),
     }

@@ -62,8 +62,26 @@ TOLD: list[tuple[Any, Any, str]] = [
     ({f"key {number}": "" for number in range(100_000)}, 1, 'requests: key "key 0" is not declared'),
 ]
 
+# Of format 3.
+SHARED = """format = 3
+[[key]]
+id = 'country'
+values = ['de', 'fr']
+[[meter]]
+name = 'shop'
+[[meter.instrument]]
+name = 'orders'
+kind = 'counter'
+range = [1, 9]
+key = ['country']
+[[recorder]]
+name = 'till'
+count = 2
+budget = { orders = 5 }
+"""
+
 FAULTS: list[tuple[Any, Any, type[Refusal]]] = [
-    ("format = 3\n", CONFIG, OpenFault),
+    ("format = 4\n", CONFIG, OpenFault),
     (CATALOGUE, "format = 9\n", OpenFault),
     ("", "", OpenFault),
     (CATALOGUE, CATALOGUE, OpenFault),
@@ -251,8 +269,18 @@ class Refusals(unittest.TestCase):
             Metrics.open(CATALOGUE, CONFIG, certificate="format = 9\n")
         asks: list[Any] = [Metrics.open, wormweekly.lint]
         for ask in asks:
-            with self.assertRaisesRegex(OpenFault, "^catalogue:1:1: catalogue format 3 is not supported"):
-                ask("format = 3\n", CONFIG)
+            with self.assertRaisesRegex(OpenFault, "^catalogue:1:1: catalogue format 4 is not supported"):
+                ask("format = 4\n", CONFIG)
+
+    def test_format_3(self) -> None:
+        config = "format = 1\nreader = [{ name = 'main' }]\n"
+        metrics = Metrics.open(SHARED, config, start=0)
+        orders = metrics.instrument("orders")
+        metrics.recorder("till 1").record(orders, {"country": "fr"}, 3)
+        self.assertIn('"country"="fr"', metrics.reader("main").text(orders, 1000))
+        told = '^catalogue:11:[0-9]+: instrument 0 "orders": field "key": no key has the id "land"'
+        with self.assertRaisesRegex(OpenFault, told):
+            Metrics.open(SHARED.replace("['country']", "['land']"), config)
 
     def test_refusals_tell_what_they_are_about(self) -> None:
         for attributes, value, words in TOLD:

@@ -47,9 +47,9 @@ fn faults_are_told() {
     };
     let cases = [
         (
-            "format = 3\n",
+            "format = 4\n",
             CONFIG,
-            "catalogue:1:1: catalogue format 3 is not supported (only 1 and 2)",
+            "catalogue:1:1: catalogue format 4 is not supported (only 1 to 3)",
         ),
         (
             &CATALOGUE.replace("'up_down_counter'", "'up_down_countre'"),

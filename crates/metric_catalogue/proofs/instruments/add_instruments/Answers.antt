@@ -8,7 +8,7 @@ use Rattle.metric_catalogue.proofs.instruments.add_instruments.Goals as goal
 pub loop-table-preserved : goal.loop-table-preserved
 loop-table-preserved c = record {
   few = omega (arith, one_longer c.loop-table.instruments c.push.new.self c.in_ok-instrument.instrument _ c.in_ok-push.ensures.ok c.loop-table.invariant.few);
-  exact = each_more (instrument_of c.args.format c.args.meter) (λ t. table_view t.now) c.loop-table.instruments c.as_slice.result.now c.push.new.self
+  exact = each_more (instrument_of c.args.format c.args.shared.now c.args.meter) (λ t. table_view t.now) c.loop-table.instruments c.as_slice.result.now c.push.new.self
       c.args.tables.now c.loop-table.table-index c.table-item.result c.in_ok-instrument.instrument
       (omega arith) c.table-item.is c.as_slice.ensures c.in_ok-instrument.ensures c.in_ok-push.ensures.ok
       ∙ c.loop-table.invariant.exact;

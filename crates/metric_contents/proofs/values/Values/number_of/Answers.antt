@@ -8,13 +8,15 @@ use Rattle.metric_contents.proofs.values.Values.number_of.Goals as goal
 
 pub returns-in-Some-clause-exact : goal.returns-in-Some-clause-exact
 returns-in-Some-clause-exact c =
-    let led = place_led c.self.inside.list c.self.inside.shortcuts.slots.items c.in-Text.text.now c.in-Some.number c.self.invariant.1 (c.in-Some.ensures) in
+    let leads = rw (c.get-listed.ensures) at c.in-Some.ensures in
+    let led = place_led c.self.inside.shared.list c.self.inside.shared.shortcuts.slots.items c.in-Text.text.now c.in-Some.number c.self.invariant.1 leads in
     rw (← c.self.view_is, c.in-Text.is) (sym led)
 
 pub returns-in-Some-clause-within : goal.returns-in-Some-clause-within
 returns-in-Some-clause-within c =
-    let led = place_led c.self.inside.list c.self.inside.shortcuts.slots.items c.in-Text.text.now c.in-Some.number c.self.invariant.1 (c.in-Some.ensures) in
-    rw (← c.self.view_is) (place_within c.self.inside.list (Text c.in-Text.text.now) (Some c.in-Some.number) (sym led))
+    let leads = rw (c.get-listed.ensures) at c.in-Some.ensures in
+    let led = place_led c.self.inside.shared.list c.self.inside.shared.shortcuts.slots.items c.in-Text.text.now c.in-Some.number c.self.invariant.1 leads in
+    rw (← c.self.view_is) (place_within c.self.inside.shared.list (Text c.in-Text.text.now) (Some c.in-Some.number) (sym led))
 
 pub returns-clause-within : goal.returns-clause-within
 returns-clause-within c =

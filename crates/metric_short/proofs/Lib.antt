@@ -1,4 +1,0 @@
-pub mod Seen
-pub mod FieldNames
-mod EachMore
-pub mod Budgets

@@ -1,8 +1,0 @@
--- the same of what is seen of the table
-use Rattle.std.proofs.Common.{◌∙◌, ℕ, List}
-use Rattle.metric_short.specs.Recorders.{is_no_amount, is_stranger, named_twice}
-use Rattle.metric_short.proofs.Budgets.{name_place}
-use Rattle.metric_short.proofs.recorders.ambiguous.Goals as goal
-
-pub returns-clause-exact : goal.returns-clause-exact
-returns-clause-exact c = c.place_of_ambiguous.ensures.exact ∙ name_place (λ (name : List ℕ). named_twice name c.args.declared.now) c.args.budget.now

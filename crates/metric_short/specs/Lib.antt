@@ -1,9 +1,0 @@
-pub mod Faults
-pub mod Texts
-pub mod Members
-pub mod Keys
-pub mod Seen
-pub mod Instruments
-pub mod Recorders
-pub mod Meaning
-pub mod Expansions
