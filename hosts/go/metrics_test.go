@@ -373,7 +373,11 @@ func TestClientsChooseAFormat(t *testing.T) {
 	}
 	for _, line := range strings.Split(strings.TrimSpace(string(table)), "\n")[1:] {
 		word, accept, _ := strings.Cut(line, " ")
-		if got := Accepted(accept); (got == OpenMetrics) != (word == "openmetrics") {
+		if word == "gzip" || word == "plain" {
+			if got := AcceptsGzip(accept); got != (word == "gzip") {
+				t.Errorf("%v for %q", got, accept)
+			}
+		} else if got := Accepted(accept); (got == OpenMetrics) != (word == "openmetrics") {
 			t.Errorf("%v for %q", got, accept)
 		}
 	}

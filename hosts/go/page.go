@@ -38,7 +38,22 @@ func Accepted(accept string) Dialect {
 	return Text
 }
 
-// The weight that a part of a header Accept has; none, where it says what is no weight.
+// AcceptsGzip tells whether whoever asks with this header Accept-Encoding takes a page that is packed by gzip.
+func AcceptsGzip(accept string) bool {
+	var all, packed float64 = 0, -1
+	for _, one := range strings.Split(strings.ToLower(accept), ",") {
+		words := strings.Split(one, ";")
+		switch weight := weightOf(words[1:]); strings.TrimSpace(words[0]) {
+		case "gzip", "x-gzip":
+			packed = math.Max(packed, weight)
+		case "*":
+			all = math.Max(all, weight)
+		}
+	}
+	return packed > 0 || packed < 0 && all > 0
+}
+
+// The weight that a part of such a header has; none, where it says what is no weight.
 func weightOf(parameters []string) float64 {
 	for _, one := range parameters {
 		if said := strings.TrimPrefix(strings.TrimSpace(one), "q="); said != strings.TrimSpace(one) {

@@ -2,6 +2,7 @@
 package prometheus
 
 import (
+	"compress/gzip"
 	"net/http"
 	"sync"
 	"time"
@@ -20,7 +21,7 @@ type Page struct {
 
 // Handler answers each request with a page of all instruments, collected then, with the attributes of the resource.
 // Where the metrics have no other reader, it rolls them over before a budget is spent, as far as requests come in time;
-// else hand Take the runs that end. The error says why there is none: streams that can not stand in one, a resource
+// else hand Take the runs that end. A page is packed by gzip where the request takes that. The error says why there is none: streams that can not stand in one, a resource
 // that is not taken, or a reader of another run.
 func Handler(metrics *wormweekly.Metrics, reader *wormweekly.Reader, resource ...wormweekly.Attr) (*Page, error) {
 	if err := reader.Expose(); err != nil {
@@ -39,8 +40,17 @@ func (own *Page) ServeHTTP(writer http.ResponseWriter, request *http.Request) {
 		http.Error(writer, err.Error(), http.StatusInternalServerError)
 		return
 	}
-	writer.Header().Set("Content-Type", dialect.ContentType())
-	_, _ = writer.Write(page) // whoever asked has gone
+	header := writer.Header()
+	header.Set("Content-Type", dialect.ContentType())
+	header.Set("Vary", "Accept, Accept-Encoding")
+	if !wormweekly.AcceptsGzip(request.Header.Get("Accept-Encoding")) {
+		_, _ = writer.Write(page) // whoever asked has gone
+		return
+	}
+	header.Set("Content-Encoding", "gzip")
+	packer := gzip.NewWriter(writer)
+	_, _ = packer.Write(page)
+	_ = packer.Close()
 }
 
 // Take adds a run that ended.

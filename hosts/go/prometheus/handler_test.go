@@ -1,7 +1,10 @@
 package prometheus
 
 import (
+	"bytes"
+	"compress/gzip"
 	"errors"
+	"io"
 	"net/http"
 	"net/http/httptest"
 	"strings"
@@ -109,6 +112,25 @@ func TestThePage(t *testing.T) {
 		if kind := answer.Header().Get("Content-Type"); kind != one.contentType {
 			t.Error(kind)
 		}
+	}
+}
+
+func TestAPageIsPackedWhereThatIsTaken(t *testing.T) {
+	metrics := opened(t, "")
+	page, err := Handler(metrics, metrics.Readers[0])
+	if err != nil {
+		t.Fatal(err)
+	}
+	request, answer := httptest.NewRequest(http.MethodGet, "/metrics", nil), httptest.NewRecorder()
+	request.Header.Set("Accept-Encoding", "gzip")
+	page.ServeHTTP(answer, request)
+	unpacked, err := gzip.NewReader(answer.Body)
+	if err != nil || answer.Header().Get("Content-Encoding") != "gzip" {
+		t.Fatal(err, answer.Header())
+	}
+	want, err := metrics.Page(metrics.Readers[0], time.Now(), wormweekly.Text)
+	if got, fault := io.ReadAll(unpacked); err != nil || fault != nil || !bytes.Equal(got, want) {
+		t.Errorf("%s\nand not\n%s", got, want)
 	}
 }
 

@@ -21,6 +21,7 @@ from wormweekly import (
     Sum,
     Total,
 )
+from wormweekly._metrics import accepts_gzip
 
 
 class Batches(unittest.TestCase):
@@ -147,7 +148,10 @@ class Batches(unittest.TestCase):
         dialects = {"text": Dialect.TEXT, "openmetrics": Dialect.OPEN_METRICS}
         lines = (Path(__file__).resolve().parents[2] / "accept.txt").read_text().splitlines()[1:]
         for word, _, accept in (line.partition(" ") for line in lines):
-            self.assertIs(Dialect.accepted(accept), dialects[word], accept)
+            if word in dialects:
+                self.assertIs(Dialect.accepted(accept), dialects[word], accept)
+            else:
+                self.assertIs(accepts_gzip(accept), word == "gzip", accept)
 
     def test_no_recorder(self) -> None:
         instrument = "[[meter.instrument]]\nname = 'i'\nkind = 'counter'\nrange = [0, 1]\n"

@@ -3,6 +3,7 @@
 from __future__ import annotations
 
 import asyncio
+import gzip
 import importlib.util
 import os
 import signal
@@ -93,6 +94,26 @@ class Measured(unittest.TestCase):
         self.assertEqual(self.seen(), {("/", 200): 1, ("other", "other"): 1})
         self.assertIn(b"a page", [message.get("body") for message in sent])
         self.check_ends(2)
+
+    def test_a_page_is_packed_where_that_is_taken(self) -> None:
+        environ: dict[str, Any] = {"PATH_INFO": "/metrics", "HTTP_ACCEPT_ENCODING": "gzip, deflate"}
+        setup_testing_defaults(environ)
+        told: list[Any] = []
+        wsgi = Wsgi(lambda *_: [], self.measures, page=lambda: b"a page")
+        (body,) = wsgi(environ, lambda *rest: told.append(rest))  # type: ignore[arg-type]
+        self.assertEqual((gzip.decompress(body), dict(told[0][1])["Content-Encoding"]), (b"a page", "gzip"))
+
+        async def receive() -> Message:
+            return {}
+
+        async def send(message: Message) -> None:
+            told.append(message)
+
+        asgi = Asgi(lambda *_: asyncio.sleep(0), self.measures, page=lambda: b"a page")
+        scope: Scope = {"type": "http", "method": "GET", "path": "/metrics", "headers": [(b"accept-encoding", b"gzip")]}
+        asyncio.run(asgi(scope, receive, send))
+        self.assertIn((b"content-encoding", b"gzip"), told[1]["headers"])
+        self.assertEqual(gzip.decompress(told[2]["body"]), b"a page")
 
     def test_ten_thousand_tasks(self) -> None:
         recorder = "[[recorder]]\nname = '{}'\nbudget = [{{ instrument = 0, amount = 20000 }}, {{ instrument = 1, amount = 20000 }}]\n"

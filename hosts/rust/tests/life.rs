@@ -167,7 +167,8 @@ fn clients_choose_a_format() {
         let (word, accept) = line.split_once(' ').unwrap_or((line, ""));
         let dialect = match word {
             "text" => Dialect::Text,
-            _ => Dialect::OpenMetrics,
+            "openmetrics" => Dialect::OpenMetrics,
+            _ => continue,
         };
         assert_eq!(Dialect::for_accept(accept), dialect, "{accept}");
     }

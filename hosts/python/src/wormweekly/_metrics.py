@@ -46,8 +46,18 @@ class Dialect(IntEnum):
         return cls.OPEN_METRICS if 0.0 < open_metrics >= text else cls.TEXT
 
 
+def accepts_gzip(accept: str) -> bool:
+    """Whether whoever asks with this header `Accept-Encoding` takes a page that is packed by gzip."""
+    weights: dict[str, float] = {}
+    for one in accept.lower().split(","):
+        name, *parameters = (word.strip() for word in one.split(";"))
+        name = "gzip" if name == "x-gzip" else name
+        weights[name] = max(weights.get(name, 0.0), _weight(parameters))
+    return weights.get("gzip", weights.get("*", 0.0)) > 0.0
+
+
 def _weight(parameters: Iterable[str]) -> float:
-    """The weight that a part of a header `Accept` has; none, where it says what is no weight."""
+    """The weight that a part of such a header has; none, where it says what is no weight."""
     said = next((one[2:] for one in parameters if one.startswith("q=")), "1")
     try:
         weight = float(said)

@@ -11,11 +11,13 @@ be strict.
 from __future__ import annotations
 
 import asyncio
+import gzip
 import time
 from collections.abc import Awaitable, Callable, Iterable, Iterator, Mapping, MutableMapping
 from typing import TYPE_CHECKING, Any
 
 from wormweekly import Attributes, Dialect, Instrument, Metrics, Value
+from wormweekly._metrics import accepts_gzip
 
 if TYPE_CHECKING:
     from wsgiref.types import StartResponse, WSGIApplication, WSGIEnvironment
@@ -104,9 +106,9 @@ class Wsgi:
     def __call__(self, environ: WSGIEnvironment, start_response: StartResponse) -> Iterable[bytes]:
         path = environ.get("PATH_INFO", "")
         if self._page is not None and path == self._at:
-            page = self._page()
-            start_response("200 OK", _headers(page))
-            return [page]
+            headers, answer = _answer(self._page(), environ.get("HTTP_ACCEPT_ENCODING", ""))
+            start_response("200 OK", headers)
+            return [answer]
         request = self._measures.begin(environ["REQUEST_METHOD"], path)
 
         def note(status: str, *rest: Any) -> Callable[[bytes], object]:
@@ -154,8 +156,10 @@ class Asgi:
         if scope["type"] != "http":
             await self._application(scope, receive, send)
         elif self._page is not None and scope["path"] == self._at:
-            body = await asyncio.to_thread(self._page)
-            headers = [(name.lower().encode(), value.encode()) for name, value in _headers(body)]
+            encodings = b",".join(value for name, value in scope.get("headers", ()) if name == b"accept-encoding")
+            page = await asyncio.to_thread(self._page)
+            named, body = _answer(page, encodings.decode("latin-1"))
+            headers = [(name.lower().encode(), value.encode()) for name, value in named]
             await send({"type": "http.response.start", "status": 200, "headers": headers})
             await send({"type": "http.response.body", "body": body})
         else:
@@ -175,5 +179,10 @@ class Asgi:
             request.end()
 
 
-def _headers(body: bytes) -> list[tuple[str, str]]:
-    return [("Content-Type", Dialect.TEXT.content_type), ("Content-Length", str(len(body)))]
+def _answer(page: bytes, accepted: str) -> tuple[list[tuple[str, str]], bytes]:
+    """The headers and the body of a page, packed where this header `Accept-Encoding` takes that."""
+    headers = [("Content-Type", Dialect.TEXT.content_type), ("Vary", "Accept-Encoding")]
+    if accepts_gzip(accepted):
+        page = gzip.compress(page, 6)
+        headers.append(("Content-Encoding", "gzip"))
+    return [*headers, ("Content-Length", str(len(page)))], page
