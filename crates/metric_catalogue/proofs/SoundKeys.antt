@@ -1,8 +1,8 @@
 -- What is read as a text or a key is sound.
 use Rattle.std.proofs.Common.{◌≡◌, ◌≢◌, ℕ, ◌+◌, ◌<◌, Bool, true, false, cond, not, ◌||◌, ◌==◌, List, [], ◌∷◌, ◌++◌, length, Option, Some, None, is_some, Ok, refl, sym, subst, ◌∙◌, arith, codes, nat_le, nat_lt, append_assoc, append-nil, true≢false, unwrap_or}
 use Rattle.std.proofs.lemmas.Bool.Decides.{nat_tests}
-use Rattle.std.proofs.lemmas.List.{length-append}
-use Rattle.std.proofs.lemmas.List.Elements.{All-from_recursion}
+use Rattle.std.proofs.lemmas.List.Kept.{AllPairs-cons}
+use Rattle.std.proofs.lemmas.List.Elements.{All-cons, All-from_recursion}
 use Rattle.std.proofs.lemmas.List.Quantifiers.{all_pairs_push}
 use Rattle.std.specs.List.{AllByRecursion, AllPairs, list_any, position_from}
 use Rattle.std.specs.Str.{bytes_eq, chars}
@@ -122,14 +122,12 @@ values_made at table values e0 =
     let differ = differ_after [] vs (λ i j d before within. absurd (omega arith)) (not-true (has_repeat vs) distinct) in
     (some, record { few = sound.few; each = sound.each; apart = subst (AllPairs (λ (v w : AttrValue). v ≢ w)) same differ }))
 
--- one more, which is none of them
-value_more : (values : List AttrValue) (value : AttrValue) → length values < 1000 → IsSoundValue value → is_some (place values value) ≡ false → AreValues values → AreValues (values ++ value ∷ [])
+-- one before them, which is none of them
+value_more : (values : List AttrValue) (value : AttrValue) → length values < 1000 → IsSoundValue value → is_some (place values value) ≡ false → AreValues values → AreValues (value ∷ values)
 value_more values value few one fresh (some, sound) =
-    let long = length-append values (value ∷ []) in
-    let before : AreSound IsSoundValue (λ v w. v ≢ w) values = record { each = sound.each; apart = sound.apart } in
-    let next : IsNext IsSoundValue (λ v w. v ≢ w) values value = record { sound = one; apart = All-from_recursion (λ other. other ≢ value) values (no_place value 0 values fresh) } in
-    let all = sound_push IsSoundValue (λ v w. v ≢ w) values value before next in
-    (omega arith, record { few = omega arith; each = all.each; apart = all.apart })
+    let others = All-from_recursion (λ other. other ≢ value) values (no_place value 0 values fresh) in
+    let apart = AllPairs-cons (λ v w. v ≢ w) value values (λ k d within. λ same. others k d within (sym same)) sound.apart in
+    (omega arith, record { few = omega arith; each = All-cons IsSoundValue value values one sound.each; apart = apart })
 
 other_made : (at : CatalogueSpot) (values : List AttrValue) (other : Option (List ℕ)) (all : List AttrValue) → values_with at values other ≡ Ok all → AreValues values → AreValues all
 other_made at values None all e sound = subst AreValues (ok_is values all (Ok values) refl e) sound
@@ -137,10 +135,10 @@ other_made at values (Some other) all e0 sound =
     after_ok (short_text (faults_at at) other) _ all e0 (λ short made e1.
     let is_among = is_some (place values (Text short)) in
     let (fits, e2) = require_ok (is_among || nat_lt (length values) 1000) (At TooMany at) _ all e1 in
-    let made_of = cond is_among values (values ++ Text short ∷ []) in
+    let made_of = cond is_among values (Text short ∷ values) in
     subst AreValues (ok_is made_of all (Ok made_of) refl e2) (by short (short_made at other short made).1 is_among refl fits))
   where
-    by : (short : List ℕ) → IsFreeText short → (b : Bool) → is_some (place values (Text short)) ≡ b → (b || nat_lt (length values) 1000) ≡ true → AreValues (cond b values (values ++ Text short ∷ []))
+    by : (short : List ℕ) → IsFreeText short → (b : Bool) → is_some (place values (Text short)) ≡ b → (b || nat_lt (length values) 1000) ≡ true → AreValues (cond b values (Text short ∷ values))
     by short own true among fits = sound
     by short own false fresh fits = let few : length values < 1000 = grind (arith, nat_tests) in value_more values (Text short) few own fresh sound
 

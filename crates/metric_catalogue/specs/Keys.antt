@@ -77,7 +77,7 @@ unfoldable pub optional_field : CatalogueSpot → Members → Result Bool Catalo
 optional_field at table = flag_or (faults_at at) (codes "optional") false table
 
 -- # values with a fallback (profile)
--- The values of a key, and last the text that stands for all others, unless it is among them.
+-- The values of a key, and first the text that stands for all others, unless it is among them.
 abbrev pub values_with : CatalogueSpot → List AttrValue → Option (List ℕ)
     → Result (List AttrValue) CatalogueFault
 values_with at values None = Ok values
@@ -85,7 +85,7 @@ values_with at values (Some other) = do
   short ← short_text (faults_at at) other
   let is_among = is_some (place_of values (Text short))
   _ ← require (is_among || nat_lt (length values) 1000) (At TooMany at)
-  Ok (if is_among then values else values ++ Text short ∷ [])
+  Ok (if is_among then values else Text short ∷ values)
 
 -- what a key of this name declares; that a table may have a fallback, its fields say
 unfoldable pub key_named : CataloguePlace → List ℕ → Members → Result Key CatalogueFault

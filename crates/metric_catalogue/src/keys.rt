@@ -1,5 +1,5 @@
 //! The keys of an instrument.
-ghost use Rattle.std.specs.Prelude.{◌≡◌, ◌≤◌, ◌<◌, ◌==◌, [], ◌∷◌, ◌++◌, length, map, IfOk};
+ghost use Rattle.std.specs.Prelude.{◌≡◌, ◌≤◌, ◌<◌, ◌==◌, [], ◌∷◌, ◌++◌, length, map, IfOk, OnOk};
 ghost use Rattle.std.specs.List.{list_any};
 ghost use Rattle.std.specs.Option.{option_map};
 ghost use Rattle.toml.specs.View.{table_view, view};
@@ -12,7 +12,7 @@ use crate::fault::{
     CatalogueDefect, CatalogueFault, CatalogueField, CataloguePlace, CatalogueSpot,
 };
 use crate::texts::{copy_short, faults_at, label_of, unknown_at};
-use metric_base::{Items, Text, copy_all};
+use metric_base::{Copied, Items, Text};
 use metric_contents::{Key, Values};
 use metric_names::AttrValue;
 use metric_table::{flag_or, list_of, only, optional_text, required, text_field};
@@ -100,7 +100,7 @@ fn key_name(alloc: Global, text: &str, at: CataloguePlace) -> Result<Text, Catal
     Ok(name)
 }
 
-// The values, and last the text that stands for all others, unless it is among them.
+// The values, and first the text that stands for all others, unless it is among them.
 fn values_with(
     alloc: Global,
     values: Values,
@@ -120,19 +120,33 @@ fn values_with(
     if values.len() == 1000 {
         return Err(CatalogueFault::At(CatalogueDefect::TooMany, at));
     }
-    Ok(one_more(alloc, &values, other)?)
+    Ok(after(alloc, other, &values)?)
 }
 
-// The values, and last one that is none of them. Fails only when out of memory.
-fn one_more(alloc: Global, values: &Values, value: AttrValue) -> Result<Values, AllocError>
+// The values after one that is none of them. Fails only when out of memory.
+fn after(alloc: Global, first: AttrValue, values: &Values) -> Result<Values, AllocError>
     requires { length values.now < 1000 }
-    ensures { IfOk result (λ more. more ≡ values.now ++ value ∷ []) }
+    ensures { IfOk result (λ all. all ≡ first ∷ values.now) }
 {
-    let mut all = copy_all(alloc, values.as_slice())?;
-    all.push(value)?;
+    let mut all = Items::new(alloc);
+    all.push(first)?;
+    push_copies(alloc, &mut all, values.as_slice())?;
     let made = Values::from_items(alloc, all)?;
     // No value stands twice.
     made.ok_or(AllocError)
+}
+
+fn push_copies(
+    alloc: Global,
+    all: &mut Items<AttrValue>,
+    values: &[AttrValue],
+) -> Result<(), AllocError>
+    ensures { OnOk result (all.new ≡ all.old ++ values.now) }
+{
+    for value in values {
+        all.push(value.copy(alloc)?)?;
+    }
+    Ok(())
 }
 
 // The values of a key, of which none stands twice.

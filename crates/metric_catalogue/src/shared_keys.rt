@@ -122,7 +122,6 @@ fn entries_within<'t>(
     }
 }
 
-#[tactic(auto, using(crate::proofs::Seen::value_laws))]
 fn are_tables(values: &[Value]) -> bool
     ensures { result ≡ list_all is_table (map view values.now) }
 {
