@@ -1,5 +1,5 @@
 //! Budgets by the names of instruments.
-ghost use Rattle.std.specs.Prelude.{◌≡◌, ◌≤◌, ◌<◌, ◌+◌, ◌++◌, is_some, length, map, nat_le, true, IfOk, IfSome, OnOk};
+ghost use Rattle.std.specs.Prelude.{◌≡◌, ◌≤◌, ◌<◌, ◌+◌, ◌++◌, codes, is_some, length, map, nat_le, slice_get, true, IfOk, IfSome, OnOk};
 ghost use Rattle.std.specs.BTreeMap.{btree_map_len, keys, values};
 ghost use Rattle.std.specs.List.{enumerate_from, flat_map, list_any, position_from};
 ghost use Rattle.std.specs.Option.{option_map};
@@ -51,19 +51,26 @@ fn named_in(alloc: Global, meters: &[Meter], instrument: &Instrument) -> Result<
     ensures { IfOk result (λ one. one ≡ named_in meters.now instrument.now) }
 {
     let name = instrument.name.get().as_str();
-    let mut path = String::from_str(alloc, meter_name(meters.get(instrument.meter as usize)))?;
-    path.push_str("/")?;
-    path.push_str(name)?;
-    Ok(Named {
-        name: Text::new(alloc, name)?,
-        path: Text::from_string(path),
-    })
+    let path = path_of(alloc, meter_name(meters, instrument.meter), name)?;
+    let name = Text::new(alloc, name)?;
+    Ok(Named { name, path })
 }
 
-fn meter_name(meter: Option<&Meter>) -> &str
-    ensures { result.now ≡ meter_name (option_map (λ m. m.now) meter.entry) }
+// The name of an instrument after that of its meter.
+fn path_of(alloc: Global, meter: &str, name: &str) -> Result<Text, AllocError>
+    ensures { IfOk result (λ path. path ≡ meter.now ++ (codes "/" ++ name.now)) }
 {
-    match meter {
+    let mut path = String::from_str(alloc, meter)?;
+    path.push_str("/")?;
+    path.push_str(name)?;
+    Ok(Text::from_string(path))
+}
+
+// The name of the meter of a number, which every instrument has.
+fn meter_name(meters: &[Meter], number: u32) -> &str
+    ensures { result.now ≡ meter_name (slice_get meters.now number) }
+{
+    match meters.get(number as usize) {
         Some(meter) => meter.name.as_str(),
         None => "",
     }
