@@ -84,7 +84,8 @@ below_all count budget n [] done few all =
     subst (λ (m : ℕ). AreBelow count m (done ++ [])) same (subst (AreBelow count n) (sym (append-nil done)) all)
 below_all count budget n (one ∷ named) done few all =
     let same : n + 1 + length named ≡ n + length (one ∷ named) = omega arith in
-    subst (λ (m : ℕ). AreBelow count m (done ++ flat_map (budget_at budget) (enumerate_from n (one ∷ named)))) same (by (amount_for budget one == 0))
+    subst (λ (m : ℕ). AreBelow count m (done ++ flat_map (budget_at budget) (enumerate_from n (one ∷ named)))) same
+    (by (amount_for budget one == 0) (λ (more : List Budget) (so_far : AreBelow count (n + 1) more). below_all count budget (n + 1) named more (omega arith) so_far))
   where
     later : List Budget
     later = flat_map (budget_at budget) (enumerate_from (n + 1) named)
@@ -92,11 +93,12 @@ below_all count budget n (one ∷ named) done few all =
     next : Budget
     next = record { instrument = n; amount = amount_for budget one }
 
-    by : (b : Bool) → AreBelow count (n + 1 + length named) (done ++ (cond b [] (next ∷ []) ++ later))
-    by true = below_all count budget (n + 1) named done (omega arith) (below_same count n done all)
-    by false =
+    by : (b : Bool) → ((more : List Budget) → AreBelow count (n + 1) more → AreBelow count (n + 1 + length named) (more ++ later))
+        → AreBelow count (n + 1 + length named) (done ++ (cond b [] (next ∷ []) ++ later))
+    by true rest = rest done (below_same count n done all)
+    by false rest =
         subst (AreBelow count (n + 1 + length named)) (append_assoc done (next ∷ []) later)
-        (below_all count budget (n + 1) named (done ++ next ∷ []) (omega arith) (below_more count n (amount_for budget one) done (omega arith) (for_limited budget one) all))
+        (rest (done ++ next ∷ []) (below_more count n (amount_for budget one) done (omega arith) (for_limited budget one) all))
 
 -- the budgets of a recorder
 abbrev AreAllBudgets : ℕ → List Budget → Type 0
