@@ -1,5 +1,5 @@
 -- The names and the values of a table beside its map.
-use Rattle.std.proofs.Common.{◌≡◌, ℕ, suc, ◌+◌, cond, Bool, List, [], ◌∷◌, Some, length, map, String, Global, BTreeMap, string_bytes, refl, ap}
+use Rattle.std.proofs.Common.{◌≡◌, ℕ, suc, ◌+◌, cond, Bool, List, [], ◌∷◌, Some, length, String, Global, BTreeMap, string_bytes, refl, ap}
 use Rattle.std.specs.BTreeMap.{keys, values}
 use Rattle.std.specs.List.{position_from}
 use Rattle.std.specs.Map.{keys_of, values_of}

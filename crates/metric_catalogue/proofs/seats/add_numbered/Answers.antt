@@ -40,6 +40,6 @@ returns-in_err-add_seat-clause-exact c =
     let p = err_from_is_err_and c.from_residual-in_err-add_seat.result c.from_residual-in_err-add_seat.ensures.1 in
     rw (p.1, p.2) (λ other. sym c.loop-number.invariant.exact
     ∙ stops (with_next (seat_of c.args.at c.args.budgets.now)) c.loop-number.recorders c.as_str.result.now _ _
-      (map (numbered c.args.name.now) (range_with_len (c.loop-number.number + 1) (c.args.count - (c.loop-number.number + 1)))) _
-      (c.in_err-add_seat.ensures.exact other) (c.as_str.ensures ∙ c.in_ok-next.ensures)
-      (next_name c.args.name.now c.loop-number.number c.args.count c.loop-number-test.true))
+    (map (numbered c.args.name.now) (range_with_len (c.loop-number.number + 1) (c.args.count - (c.loop-number.number + 1)))) _
+    (c.in_err-add_seat.ensures.exact other) (c.as_str.ensures ∙ c.in_ok-next.ensures)
+    (next_name c.args.name.now c.loop-number.number c.args.count c.loop-number-test.true))
