@@ -7,7 +7,6 @@ use Rattle.metric_base.specs.StepLaws.{after_ok, in_turn_keeps, ok_is, require_o
 use Rattle.metric_table.specs.FieldLaws.{none_other}
 use Rattle.metric_table.specs.Fields.{tables_field}
 use Rattle.metric_contents.specs.declared.contents.Instrument.{Instrument}
-use Rattle.metric_contents.specs.declared.contents.Key.{Key}
 use Rattle.metric_catalogue.specs.declared.instruments.Head.{Head}
 use Rattle.metric_catalogue.specs.declared.instruments.Limits.{Limits}
 use Rattle.metric_catalogue.specs.declared.meters.Metered.{Metered}

@@ -14,7 +14,6 @@ use Rattle.metric_names.specs.Names.{folded, IsName, IsSameName, name_of}
 use Rattle.metric_names.specs.Units.{IsUnit, unit_of}
 use Rattle.metric_table.specs.Fields.{integer_of, integers_of, list_of, optional_text, text_field}
 use Rattle.metric_contents.specs.declared.contents.Instrument.{Instrument}
-use Rattle.metric_contents.specs.declared.contents.Key.{Key}
 use Rattle.metric_contents.specs.declared.contents.Kind.{Kind}
 use Rattle.metric_catalogue.specs.declared.instruments.Head.{Head}
 use Rattle.metric_catalogue.specs.declared.instruments.Limits.{Limits}

@@ -1,5 +1,5 @@
 -- What is read as a key that is declared once, or as the keys of an instrument, is sound.
-use Rattle.std.proofs.Common.{◌≡◌, ◌≢◌, ℕ, ◌+◌, ◌≤◌, All, Bool, true, false, cond, not, ◌||◌, ◌==◌, List, [], ◌∷◌, length, Option, Some, None, Ok, refl, subst, arith, codes, unwrap_or}
+use Rattle.std.proofs.Common.{suc, ◌≡◌, ◌≢◌, ℕ, ◌≤◌, All, Bool, true, false, cond, not, ◌||◌, ◌==◌, List, [], ◌∷◌, length, Option, Some, None, Ok, refl, subst, arith, codes, unwrap_or}
 use Rattle.std.specs.List.{find, list_all, list_any}
 use Rattle.toml.specs.Data.{Data, Members, get_member, string, table as table_data}
 use Rattle.metric_base.specs.Steps.{require_some}
@@ -38,11 +38,11 @@ shared_made before table shared e0 =
 -- what is found is one of the list
 found_holds : {X : Type 0} (P : X → Type 0) (test : X → Bool) (xs : List X) (x : X) → find test xs ≡ Some x → All P xs → P x
 found_holds P test [] x e all = absurd cc
-found_holds {X} P test (y ∷ ys) x e all = by (test y) e
+found_holds {X} P test (y ∷ ys) x e all = by (test y) e (λ (found : find test ys ≡ Some x). found_holds P test ys x found (λ k d within. all (suc k) d (omega arith)))
   where
-    by : (b : Bool) → cond b (Some y) (find test ys) ≡ Some x → P x
-    by true found = let same : y ≡ x = cc in subst P same (all 0 y (omega arith))
-    by false found = found_holds P test ys x found (λ k d within. all (k + 1) d (omega arith))
+    by : (b : Bool) → cond b (Some y) (find test ys) ≡ Some x → (find test ys ≡ Some x → P x) → P x
+    by true found rest = let same : y ≡ x = cc in subst P same (all 0 y (omega arith))
+    by false found rest = rest found
 
 by_id_made : (at : CatalogueSpot) (shared : List SharedKey) → All IsSoundShared shared → (before : List Key) (id : List ℕ) (key : Key) → key_by_id at shared before id ≡ Ok key
     → IsNext IsSoundKey (λ other k. other.name ≢ k.name) before key

@@ -10,7 +10,6 @@ use Rattle.metric_names.specs.Units.{unit_of}
 use Rattle.metric_table.specs.Fields.{only, field, text_field, optional_text, list_of, integer_of}
 use Rattle.metric_table.specs.Fields.{integers_of}
 use Rattle.metric_contents.specs.declared.contents.Instrument.{Instrument}
-use Rattle.metric_contents.specs.declared.contents.Key.{Key}
 use Rattle.metric_contents.specs.declared.contents.Kind.{Kind}
 use Rattle.metric_catalogue.specs.declared.instruments.Head.{Head}
 use Rattle.metric_catalogue.specs.declared.instruments.Limits.{Limits}

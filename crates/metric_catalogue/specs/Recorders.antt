@@ -1,5 +1,5 @@
 -- The recorders of a catalogue, with their budgets.
-use Rattle.std.specs.Prelude.{ℕ, ℤ, pos, negsuc, Bool, not, ◌==◌, ◌^◌, nat_lt, if◌then◌else◌, List}
+use Rattle.std.specs.Prelude.{ℕ, ℤ, pos, negsuc, Bool, not, ◌^◌, nat_lt, if◌then◌else◌, List}
 use Rattle.std.specs.Prelude.{[], ◌∷◌, length, Option, Some, None, Result, Ok, codes}
 use Rattle.std.specs.List.{list_any}
 use Rattle.std.specs.Str.{bytes_eq}

@@ -1,4 +1,5 @@
 -- what is read is sound
+use Rattle.std.proofs.Common.{false}
 use Rattle.toml.specs.View.{table_view}
 use Rattle.metric_catalogue.proofs.SoundCatalogues.{contents_made}
 use Rattle.metric_catalogue.proofs.catalogue.Catalogue.read.Goals as goal
