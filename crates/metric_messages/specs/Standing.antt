@@ -28,7 +28,7 @@ opens byte = byte == 10 || byte == 91
 -- list, or a text in several lines
 abbrev pub is_odd : ℕ → ℕ → ℕ → Bool
 is_odd before last byte =
-    (opens last && byte == 123)
+    ((opens last || last == 44) && byte == 123)
     || (is_quote byte
     && (last == 10 || (opens before && last == 91) || (before == byte && last == byte)))
 

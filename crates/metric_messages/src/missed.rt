@@ -43,7 +43,7 @@ pub(crate) fn words_of_nothing(
     if pair.catalogue.instruments().is_empty() {
         return format!(in alloc; "view {view} selects no instrument: there is none");
     }
-    match nearest(pair, &own.criteria) {
+    match nearest_instrument(pair, &own.criteria) {
         Some((number, missed)) => {
             let instrument = instrument_of(pair.catalogue, number);
             format!(in alloc;
@@ -93,7 +93,7 @@ fn has_name(criteria: &Criteria, instrument: &Instrument) -> bool {
 }
 
 // The first instrument of the name that misses the fewest criteria, with the first that it misses.
-fn nearest<'t>(pair: Pair<'t>, criteria: &Criteria) -> Option<(u32, Missed<'t>)> {
+fn nearest_instrument<'t>(pair: Pair<'t>, criteria: &Criteria) -> Option<(u32, Missed<'t>)> {
     let mut found = None;
     let mut fewest = usize::MAX;
     for (number, instrument) in pair.catalogue.instruments().iter().enumerate() {

@@ -34,7 +34,7 @@ fn opens(byte: u8) -> bool
 fn is_odd(before: u8, last: u8, byte: u8) -> bool
     ensures { result ≡ is_odd before last byte }
 {
-    (opens(last) && byte == b'{')
+    ((opens(last) || last == b',') && byte == b'{')
         || (is_quote(byte)
             && (last == b'\n'
                 || (opens(before) && last == b'[')
