@@ -1,5 +1,6 @@
 //! A catalogue and a config that a host gave, read.
 ghost use Rattle.std.specs.Prelude.{◌≡◌, IfErr, IfOk, codes};
+ghost use Rattle.metric_catalogue.specs.Catalogues.{opened_of};
 ghost use Rattle.wormweekly_c.specs.Pairs.{IsPair};
 ghost use Rattle.metric_setup.specs.Setups.{IsDeclared, IsFirstFault};
 
@@ -31,7 +32,7 @@ pub(crate) fn declared_of(
     config_text: &str,
 ) -> Result<Declared, SetupFault>
     ensures declared { IfOk result (λ both.
-        IsDeclared catalogue_text.now config_text.now both.catalogue both.config) }
+        IsDeclared (opened_of catalogue_text.now) config_text.now both.catalogue both.config) }
     ensures first { IfErr result (λ fault.
         IsFirstFault fault catalogue_text.now config_text.now) }
 {
@@ -42,7 +43,7 @@ pub(crate) fn declared_of(
 
 /// Both with the texts that they were read from, as a host is told of them: its texts are no files.
 pub(crate) fn pair_of<'t>(declared: &'t Declared, catalogue: &'t str, config: &'t str) -> Pair<'t>
-    requires { IsDeclared catalogue.now config.now declared.now.catalogue
+    requires { IsDeclared (opened_of catalogue.now) config.now declared.now.catalogue
         declared.now.config }
     ensures { IsPair catalogue.entry.now config.entry.now result }
 {

@@ -31,6 +31,6 @@ fn single<'a>(alloc: Global) -> Result<Command<'a>, AllocError>
     ensures local { IfOk result (λ command. (fields_of command).has_globals ≡ false) }
 {
     let command = Ok(named(alloc, "expand", ABOUT, EXAMPLE));
-    let help = "The catalogue, of format 3";
+    let help = "The catalogue";
     with_argument(command, file(alloc, "catalogue", "CATALOGUE", help, true))
 }
