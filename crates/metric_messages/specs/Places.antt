@@ -37,8 +37,8 @@ seats_of _ = 1
 -- The one that stands for the recorder of a number: in format 3 a table may stand for several.
 abbrev pub table_of : ℕ → List Data → ℕ
 table_of number [] = number
-table_of number (table ∷ tables) =
-    if nat_lt number (seats_of table) then 0 else table_of (number - seats_of table) tables + 1
+table_of number (first ∷ others) =
+    if nat_lt number (seats_of first) then 0 else table_of (number - seats_of first) others + 1
 
 abbrev pub tables_in : Option Data → List Data
 tables_in None = []
