@@ -19,8 +19,8 @@ pub struct Position {
 }
 
 /// Where the table that a place names begins in the text of a catalogue: the line with its header, `[[key]]`,
-/// `[[meter]]`, `[[meter.instrument]]` or `[[recorder]]`, of those of its kind in order. The top table begins with the text, and a
-/// key or a budget stands where its instrument or recorder does.
+/// `[[meter]]`, `[[meter.instrument]]` or `[[recorder]]`, of those of its kind in order. The top table begins with the
+/// text, and a key or a budget stands where its instrument or recorder does.
 ///
 /// Nothing where the text has no such header, or has a list of such tables in one line, as `recorder = [{ name = "main"
 /// }]`. A line of a text in several lines that looks like a header is taken for one. Fails only when out of memory.

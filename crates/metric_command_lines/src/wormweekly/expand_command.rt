@@ -11,7 +11,8 @@ use std::alloc::{AllocError, Global};
 
 const ABOUT: &str = "Prints a catalogue of format 3 as the catalogue of format 2 that it means";
 
-const EXAMPLE: &str = "For readers of format 2 alone; every command of wormweekly reads format 3 too.
+const EXAMPLE: &str =
+    "For readers of format 2 alone; every command of wormweekly reads format 3 too.
 
 Example:
   wormweekly expand catalogue.toml -o expanded.toml";
