@@ -151,7 +151,9 @@ typedef struct {
     int64_t whole;
 } wormweekly_pair;
 
-/* A recording whose set key wormweekly_prepare wrote; the value is the host's to write. */
+/* A recording of a set key, which wormweekly_prepare writes, or the host: for each key of the instrument, in its order,
+ * 0 where the recording has no such key, else the number of its value, from 1; behind them 0. A set key that no
+ * attributes come to is refused with 5, or with 13 where the instrument does not allow the combination. */
 typedef struct {
     uint16_t set[8];
     int64_t value;

@@ -35,6 +35,11 @@ const (
 // A setKey is what a set of attributes comes to on an instrument.
 type setKey struct{ low, high uint64 }
 
+func setKeyOf(set [8]uint16) (key setKey) {
+	*(*[8]uint16)(unsafe.Pointer(&key)) = set
+	return key
+}
+
 // A prepared recording, as C has it.
 type prepared struct {
 	set   setKey

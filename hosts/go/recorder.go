@@ -42,6 +42,17 @@ func (recorder *Recorder) Add(bound Bound, value int64) error {
 	return errorOn(on, on.made(recorder, &recording{set: bound.set, isSet: true, value: value}))
 }
 
+// AddSet makes a recording of a set key, as code that is made from a catalogue writes one: for each key of the
+// instrument, in its order, 0 where the recording has no such key, else the number of its value, from 1; behind them 0.
+// A set key that no attributes come to is refused as ErrUnknownValue, or as ErrCombination where the instrument does not
+// allow the combination. Where it is refused, nothing is counted.
+func (recorder *Recorder) AddSet(on *Instrument, set [8]uint16, value int64) error {
+	if err := recorder.begin(on); err != nil {
+		return err
+	}
+	return errorOn(on, on.made(recorder, &recording{set: setKeyOf(set), isSet: true, value: value}))
+}
+
 // AddDuration records how long something took, in whole units, as time.Millisecond. What is above the range of the
 // instrument is recorded as its greatest value, and Instrument.Clamped counts it. Where it is refused, nothing is
 // counted.

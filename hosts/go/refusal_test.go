@@ -184,6 +184,23 @@ func TestMisuseIsRefusedByName(t *testing.T) {
 	}
 }
 
+func TestASetKeyThatIsWrittenIsThatOfAttributes(t *testing.T) {
+	metrics, _, second, requests := opened(t)
+	done(t, second.AddSet(requests, [8]uint16{2, 1}, 7))
+	done(t, second.AddSet(requests, [8]uint16{2, 1, 2}, 1))
+	for _, wrong := range [][8]uint16{{0, 1}, {3, 1}, {2, 1, 3}, {2, 1, 0, 1}} {
+		if err := second.AddSet(requests, wrong, 1); !errors.Is(err, ErrUnknownValue) {
+			t.Errorf("%v for %v", err, wrong)
+		}
+	}
+	if bound := must(requests.Bind(String("route", "/cart"), Int("status", 200)))(t); bound.set != setKeyOf([8]uint16{2, 1}) {
+		t.Error(bound.set)
+	}
+	if count := totalsOf(t, metrics)[0].Count; count != 2 {
+		t.Errorf("%d were counted", count)
+	}
+}
+
 func TestListsEndAtARefusal(t *testing.T) {
 	metrics, _, second, requests := opened(t)
 	bound := must(requests.Bind(home...))(t)

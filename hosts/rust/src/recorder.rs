@@ -323,6 +323,22 @@ impl Recorder {
         answer(self.record_found(&prepared.instrument, &own))
     }
 
+    /// Makes a recording of a set key, as code that is made from a catalogue writes one: for each key of the instrument,
+    /// in its order, 0 where the recording has no such key, else the number of its value, from 1; behind them 0.
+    ///
+    /// # Errors
+    ///
+    /// The first [`Refusal`]; nothing is counted then. A set key that no attributes come to is refused as
+    /// [`Refusal::UnknownValue`], or as [`Refusal::Combination`] where the instrument does not allow the combination.
+    pub fn record_set(
+        &mut self,
+        instrument: &Instrument,
+        set: [u16; 8],
+        value: i64,
+    ) -> Result<(), Refusal> {
+        answer(self.record_set_code(instrument, set, value))
+    }
+
     /// Makes several recordings with attributes that were prepared for one instrument, in one call and under one lock.
     ///
     /// # Errors

@@ -318,6 +318,33 @@ fn prepared_recordings_go_one_by_one_and_in_lists() -> Result<(), Box<dyn std::e
 }
 
 #[test]
+fn set_keys_that_a_host_writes_are_those_of_attributes() -> Result<(), Box<dyn std::error::Error>> {
+    let Opened {
+        metrics,
+        mut recorders,
+        ..
+    } = opened();
+    let requests = metrics.instrument("requests")?;
+    let second = &mut recorders[1];
+    let set = |keys: [u16; 4]| [keys[0], keys[1], keys[2], keys[3], 0, 0, 0, 0];
+    second.record_set(requests, set([2, 1, 0, 0]), 7)?;
+    second.record_set(requests, set([2, 1, 2, 0]), 1)?;
+    let unknown = Err(Refusal::UnknownValue(About::default()));
+    for wrong in [[0, 1, 0, 0], [3, 1, 0, 0], [2, 1, 3, 0], [2, 1, 0, 1]] {
+        assert_eq!(
+            second.record_set(requests, set(wrong), 1),
+            unknown,
+            "{wrong:?}"
+        );
+    }
+    let attributes = [("route", "/cart".into()), ("status", 200.into())];
+    second.record(requests, &attributes, 2)?;
+    let totals = metrics.settle(&mut recorders)?;
+    assert_eq!(totals[0], Total { count: 3, sum: 10 });
+    Ok(())
+}
+
+#[test]
 fn seats_of_other_runs_are_strangers() -> Result<(), Box<dyn std::error::Error>> {
     let mut one = opened();
     let mut other = opened();
