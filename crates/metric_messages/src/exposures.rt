@@ -150,7 +150,7 @@ fn words_of_names(
         Some(other) => {
             let other = claimant(alloc, pair, streams, other)?;
             format!(in alloc;
-                "for prometheus: {one} and {other}, and lines of the one would be taken for the other's: {RENAME_ONE}"
+                "for prometheus: {one} and {other}, and a page can't hold both: {RENAME_ONE}"
             )
         }
         None => format!(in alloc;
