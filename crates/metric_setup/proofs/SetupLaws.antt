@@ -2,6 +2,7 @@
 use Rattle.std.proofs.Common.{◌≡◌, ℕ, Bool, true, false, cond, List, [], ◌∷◌, length, map, nat_le, Option, Some, None, Result, Ok, Err, IfOk, refl, ap, ◌∙◌}
 use Rattle.std.specs.Prelude.{unwrap_or}
 use Rattle.metric_contents.specs.declared.contents.Contents.{Contents}
+use Rattle.metric_catalogue.specs.Catalogues.{opened_of}
 use Rattle.metric_views.specs.declared.config.Setup.{Setup}
 use Rattle.metric_views.specs.declared.stream.Stream.{Stream}
 use Rattle.metric_resolve.specs.Resolved.{streams_of}
@@ -45,7 +46,7 @@ made_flags contents (s ∷ streams) =
     ∙ ap (λ (rest : List Bool). nat_le (product_of contents s) s.limit ∷ rest) (made_flags contents streams)
 
 pub made_plan : (catalogue config : List ℕ) (contents : Contents) (setup : Setup) (certificate : Certificate) (planned : Result PlanValue SetupFault)
-    → IsDeclared catalogue config contents setup → Certifies contents setup certificate → Plans planned contents setup certificate
+    → IsDeclared (opened_of catalogue) config contents setup → Certifies contents setup certificate → Plans planned contents setup certificate
     → IfOk planned (IsCertifiedPlan catalogue config)
 made_plan catalogue config contents setup certificate (Ok plan) declared made p = record {
   contents = contents;
