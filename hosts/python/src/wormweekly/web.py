@@ -106,9 +106,9 @@ class Wsgi:
     def __call__(self, environ: WSGIEnvironment, start_response: StartResponse) -> Iterable[bytes]:
         path = environ.get("PATH_INFO", "")
         if self._page is not None and path == self._at:
-            headers, answer = _answer(self._page(), environ.get("HTTP_ACCEPT_ENCODING", ""))
+            headers, served = _served(self._page, environ.get("HTTP_ACCEPT_ENCODING", ""))
             start_response("200 OK", headers)
-            return [answer]
+            return [served]
         request = self._measures.begin(environ["REQUEST_METHOD"], path)
 
         def note(status: str, *rest: Any) -> Callable[[bytes], object]:
@@ -156,9 +156,8 @@ class Asgi:
         if scope["type"] != "http":
             await self._application(scope, receive, send)
         elif self._page is not None and scope["path"] == self._at:
-            encodings = b",".join(value for name, value in scope.get("headers", ()) if name == b"accept-encoding")
-            page = await asyncio.to_thread(self._page)
-            named, body = _answer(page, encodings.decode("latin-1"))
+            accepted = b",".join(value for name, value in scope.get("headers", ()) if name == b"accept-encoding")
+            named, body = await asyncio.to_thread(_served, self._page, accepted.decode("latin-1"))
             headers = [(name.lower().encode(), value.encode()) for name, value in named]
             await send({"type": "http.response.start", "status": 200, "headers": headers})
             await send({"type": "http.response.body", "body": body})
@@ -179,10 +178,10 @@ class Asgi:
             request.end()
 
 
-def _answer(page: bytes, accepted: str) -> tuple[list[tuple[str, str]], bytes]:
+def _served(page: Page, accepted: str) -> tuple[list[tuple[str, str]], bytes]:
     """The headers and the body of a page, packed where this header `Accept-Encoding` takes that."""
-    headers = [("Content-Type", Dialect.TEXT.content_type), ("Vary", "Accept-Encoding")]
+    headers, body = [("Content-Type", Dialect.TEXT.content_type), ("Vary", "Accept-Encoding")], page()
     if accepts_gzip(accepted):
-        page = gzip.compress(page, 6)
+        body = gzip.compress(body, 6)
         headers.append(("Content-Encoding", "gzip"))
-    return [*headers, ("Content-Length", str(len(page)))], page
+    return [*headers, ("Content-Length", str(len(body)))], body
