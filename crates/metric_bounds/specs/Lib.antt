@@ -5,6 +5,8 @@ pub mod First
 pub mod FirstLaws
 pub mod Safe
 pub mod KeptLaws
+pub mod Most
+pub mod MostLaws
 pub mod Listing
 pub mod SetLaws
 pub mod Sets

@@ -21,3 +21,10 @@ is_monotonic Counter = true
 is_monotonic UpDownCounter = false
 is_monotonic Histogram = true
 is_monotonic Gauge = false
+
+-- the kind whose values are not added up
+abbrev pub is_gauge : Kind → Bool
+is_gauge Counter = false
+is_gauge UpDownCounter = false
+is_gauge Histogram = false
+is_gauge Gauge = true

@@ -6,6 +6,7 @@ pub mod Numbering
 pub mod Packed
 pub mod Shortcuts
 pub mod Kinds
+pub mod Most
 pub mod KeyNames
 pub mod KeySets
 pub mod Encoding

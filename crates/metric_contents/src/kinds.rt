@@ -1,6 +1,6 @@
 //! Kinds of instruments.
 ghost use Rattle.std.specs.Prelude.{◌≡◌};
-ghost use Rattle.metric_contents.specs.Kinds.{is_monotonic, kind_named};
+ghost use Rattle.metric_contents.specs.Kinds.{is_gauge, is_monotonic, kind_named};
 
 use crate::contents::Kind;
 
@@ -28,5 +28,12 @@ impl Kind {
         ensures { result ≡ is_monotonic self.now }
     {
         matches!(self, Kind::Counter | Kind::Histogram)
+    }
+
+    /// Whether it is the kind whose values are not added up.
+    pub fn is_gauge(&self) -> bool
+        ensures { result ≡ is_gauge self.now }
+    {
+        matches!(self, Kind::Gauge)
     }
 }
