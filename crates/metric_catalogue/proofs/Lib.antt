@@ -10,3 +10,4 @@ mod SoundCatalogues
 mod SoundSeats
 pub mod Seen
 mod Budgets
+mod Silences

@@ -1,17 +1,18 @@
 -- What is read as a catalogue is sound.
-use Rattle.std.proofs.Common.{◌≡◌, ◌≢◌, ℕ, ℤ, pos, negsuc, ◌+◌, ◌-◌, ◌<◌, ◌≤◌, ◌^◌, ◌⊎◌, inl, inr, Bool, true, false, not, cond, All, List, [], ◌∷◌, ◌++◌, length, map, get_or, Some, None, Ok, refl, sym, ap, subst, ◌∙◌, ◌==◌, arith, codes, nat_lt, eq-eqb, true≢false}
+use Rattle.std.proofs.Common.{◌≡◌, ◌≢◌, ℕ, ℤ, pos, negsuc, ◌+◌, ◌-◌, ◌<◌, ◌≤◌, ◌^◌, ◌⊎◌, inl, inr, Bool, true, false, not, cond, All, List, [], ◌∷◌, ◌++◌, length, map, get_or, Option, Some, None, Ok, refl, sym, ap, subst, ◌∙◌, ◌==◌, arith, codes, nat_lt, eq-eqb, true≢false}
 use Rattle.std.proofs.lemmas.Bool.Decides.{nat_tests}
 use Rattle.std.proofs.lemmas.List.{length-append, length-map}
 use Rattle.std.proofs.lemmas.Slice.Eq.{bytes_eq-Decides}
-use Rattle.std.specs.List.{list_any}
+use Rattle.std.specs.List.{enumerate_from, list_any, position_from}
 use Rattle.std.specs.Str.{bytes_eq}
-use Rattle.toml.specs.Data.{Members}
+use Rattle.toml.specs.Data.{Members, no_members}
 use Rattle.metric_base.specs.Steps.{in_turn, each}
-use Rattle.metric_base.specs.StepLaws.{after_ok, require_ok, ok_is}
+use Rattle.metric_base.specs.StepLaws.{after_ok, in_turn_keeps, require_ok, ok_is}
 use Rattle.metric_table.specs.Fields.{only, tables_field}
 use Rattle.metric_contents.specs.declared.contents.Budget.{Budget}
 use Rattle.metric_contents.specs.declared.contents.Contents.{Contents}
 use Rattle.metric_contents.specs.declared.contents.Instrument.{Instrument}
+use Rattle.metric_contents.specs.declared.contents.Key.{Key}
 use Rattle.metric_contents.specs.declared.contents.Meter.{Meter}
 use Rattle.metric_contents.specs.declared.contents.Recorder.{Recorder}
 use Rattle.metric_catalogue.specs.declared.meters.Metered.{Metered}
@@ -22,21 +23,22 @@ use Rattle.metric_catalogue.specs.declared.fault.CataloguePlace.{CataloguePlace}
 use Rattle.metric_catalogue.specs.declared.fault.CatalogueField.TheVariants as fields
 use Rattle.metric_catalogue.specs.declared.fault.CataloguePlace.TheVariants as place
 use Rattle.metric_catalogue.specs.Catalogues.{contents_declared, contents_of, declared_format, format_of_top, nothing_metered, recorders_declared}
-use Rattle.metric_catalogue.specs.Faults.{faults_at, field_at}
+use Rattle.metric_catalogue.specs.Faults.{entry_at, faults_at, field_at}
+use Rattle.metric_catalogue.specs.Groups.{common_keys, group_fields, group_keys, groups_field, instruments_added, lacks_keys, with_group}
 use Rattle.metric_catalogue.specs.Instruments.{instrument_of}
 use Rattle.metric_catalogue.specs.Meters.{is_meter, meter_of, only_meter_fields, with_meter}
 use Rattle.metric_catalogue.specs.Recorders.{amount_field, amount_from, budget_fields, budget_of, budgeted, budgets_field, is_recorder, number_below, number_field, recorder_fields, recorder_name, recorder_of}
 use Rattle.metric_contents.specs.Budgets.{is_budget}
-use Rattle.metric_catalogue.specs.Sound.{AreInstrumentsApart, IsLabel, IsSound, IsSoundBudget, IsSoundInstrument, IsSoundList, IsSoundMeter, IsSoundRecorder}
+use Rattle.metric_catalogue.specs.Sound.{AreInstrumentsApart, IsLabel, IsSound, IsSoundBudget, IsSoundInstrument, IsSoundKey, IsSoundList, IsSoundMeter, IsSoundRecorder}
 use Rattle.metric_catalogue.specs.Texts.{free_text, needed_text}
 use Rattle.metric_catalogue.proofs.PlainFiles.{meters_plain, some_made}
-use Rattle.metric_catalogue.proofs.SoundInstruments.{amount_made, instrument_made}
+use Rattle.metric_catalogue.proofs.SoundInstruments.{AreSoundKeys, amount_made, instrument_made}
 use Rattle.metric_catalogue.proofs.SoundKeys.{free_made, label_made, needed_made}
 use Rattle.metric_catalogue.specs.declared.shared_keys.SharedKey.{SharedKey}
 use Rattle.metric_catalogue.specs.Seats.{named_in, seats_declared}
-use Rattle.metric_catalogue.specs.SharedKeys.{shared_key}
+use Rattle.metric_catalogue.specs.SharedKeys.{entries_field, key_entry, shared_key}
 use Rattle.metric_catalogue.proofs.SoundSeats.{seats_sound}
-use Rattle.metric_catalogue.proofs.SoundShared.{IsSoundShared, shared_made}
+use Rattle.metric_catalogue.proofs.SoundShared.{IsSoundShared, entries_few, entry_made, shared_made}
 use Rattle.metric_catalogue.proofs.SoundLists.{AreSound, IsNext, apart_by, each_length, each_sound, made_sound, sound_none, sound_push, tables_few, texts_apart}
 
 -- the meters so far, and their instruments
@@ -45,10 +47,10 @@ record IsSoundSoFar (m : Metered) : Type 0 where
   instruments : AreSound (IsSoundInstrument (length m.meters)) AreInstrumentsApart m.instruments
   few : length m.instruments ≤ 512
 
-texts_made : (at : CataloguePlace) (table : Members) (meter : Meter) → meter_of at table ≡ Ok meter → IsSoundMeter meter
+texts_made : (is_shared : Bool) (at : CataloguePlace) (table : Members) (meter : Meter) → meter_of is_shared at table ≡ Ok meter → IsSoundMeter meter
 unfolding meter_of
-texts_made at table meter e0 =
-    after_ok (only_meter_fields at table) _ meter e0 (λ _ _ e1.
+texts_made is_shared at table meter e0 =
+    after_ok (only_meter_fields is_shared at table) _ meter e0 (λ _ _ e1.
     after_ok (needed_text (field_at at fields.Name) (codes "name") table) _ meter e1 (λ name named e2.
     after_ok (free_text (field_at at fields.Version) (codes "version") table) _ meter e2 (λ version versioned e3.
     after_ok (free_text (field_at at fields.SchemaUrl) (codes "schema_url") table) _ meter e3 (λ schema_url located e4.
@@ -84,48 +86,104 @@ one_more meters instrument sound = record {
   spare = sound.spare;
 }
 
-meter_made : (format : ℕ) (shared : List SharedKey) → All IsSoundShared shared → (before : Metered) (table : Members) (after : Metered) → with_meter format shared before table ≡ Ok after → IsSoundSoFar before → IsSoundSoFar after × (length after.meters ≡ length before.meters + 1)
+-- the instruments so far of a number of meters
+record AreInstruments (meters : ℕ) (instruments : List Instrument) : Type 0 where
+  sound : AreSound (IsSoundInstrument meters) AreInstrumentsApart instruments
+  few : length instruments ≤ 512
+
+-- the instruments of some tables, with the fields and the keys of a group
+tables_added : (format : ℕ) (shared : List SharedKey) → All IsSoundShared shared → (recorders : List Members) (meter : ℕ) (name : List ℕ) (group : Members) (common : List Key) → AreSoundKeys common
+    → (before : List Instrument) (tables : List Members) (after : List Instrument) → length tables ≤ 512 - length before
+    → each (instrument_of format shared recorders meter name group common) before tables ≡ Ok after → AreInstruments (meter + 1) before → AreInstruments (meter + 1) after
+tables_added format shared known recorders meter name group common shares before tables after short made so_far =
+    let step = instrument_of format shared recorders meter name group common in
+    let count = each_length step before tables after made in
+    let next = instrument_made format shared known recorders meter (meter + 1) (omega arith) name group common shares in
+    record {
+      sound = each_sound (IsSoundInstrument (meter + 1)) AreInstrumentsApart step next before tables after made so_far.sound;
+      few = omega (arith, count, short, so_far.few);
+    }
+
+-- no keys at all
+no_keys : AreSoundKeys []
+no_keys = let none = sound_none IsSoundKey (λ o k. o.name ≢ k.name) in record { few = omega arith; each = none.each; apart = none.apart }
+
+-- the keys of a group
+common_made : (shared : List SharedKey) → All IsSoundShared shared → (group : Members) (first : Option ℕ) (keys : List Key) → common_keys shared group first ≡ Ok keys → AreSoundKeys keys
+unfolding group_keys
+common_made shared known group None keys e = subst AreSoundKeys (ok_is [] keys (Ok []) refl e) no_keys
+common_made shared known group (Some number) keys e0 =
+    let at = field_at (place.Instrument number) fields.Key in
+    after_ok (entries_field 3 at group) _ keys e0 (λ entries listed e1.
+    made_sound 8 IsSoundKey (λ o k. o.name ≢ k.name) (key_entry 3 shared number) (entry_made 3 shared known number) entries keys e1 (entries_few 3 at group entries listed))
+
+group_made : (shared : List SharedKey) → All IsSoundShared shared → (recorders : List Members) (meter : ℕ) (name : List ℕ) (before : List Instrument) (numbered : ℕ × Members) (after : List Instrument)
+    → with_group shared recorders meter name before numbered ≡ Ok after → AreInstruments (meter + 1) before → AreInstruments (meter + 1) after
+unfolding with_group
+group_made shared known recorders meter name before numbered after e0 so_far =
+    let group = numbered.1 in
+    let at = entry_at (field_at (place.Meter meter) fields.Group) numbered.0 in
+    after_ok (only (faults_at at) group_fields group) _ after e0 (λ _ _ e1.
+    after_ok (tables_field (faults_at at) (512 - length before) (codes "instrument") group) _ after e1 (λ tables listed e2.
+    after_ok (common_keys shared group (position_from lacks_keys (length before) tables)) _ after e2 (λ common keyed e3.
+    let shares = common_made shared known group (position_from lacks_keys (length before) tables) common keyed in
+    let short = tables_few (faults_at at) (512 - length before) (codes "instrument") group tables listed in
+    tables_added 3 shared known recorders meter name group common shares before tables after short e3 so_far)))
+
+-- the instruments of a meter and of its groups
+added_made : (format : ℕ) (shared : List SharedKey) → All IsSoundShared shared → (recorders : List Members) (meter : ℕ) (name : List ℕ) (tables groups : List Members) (before after : List Instrument)
+    → length tables ≤ 512 - length before → instruments_added format shared recorders meter name tables groups before ≡ Ok after → AreInstruments (meter + 1) before → AreInstruments (meter + 1) after
+unfolding instruments_added
+added_made format shared known recorders meter name tables groups before after short e0 so_far =
+    after_ok (each (instrument_of format shared recorders meter name no_members []) before tables) _ after e0 (λ own made e1.
+    let first = tables_added format shared known recorders meter name no_members [] no_keys before tables own short made so_far in
+    in_turn_keeps (AreInstruments (meter + 1)) (with_group shared recorders meter name) (group_made shared known recorders meter name) own (enumerate_from 0 groups) after e1 first)
+
+meter_made : (format : ℕ) (shared : List SharedKey) → All IsSoundShared shared → (recorders : List Members) (before : Metered) (table : Members) (after : Metered) → with_meter format shared recorders before table ≡ Ok after → IsSoundSoFar before
+    → IsSoundSoFar after × (length after.meters ≡ length before.meters + 1)
 unfolding with_meter
-meter_made format shared sound_shared before table after e0 so_far =
-    let at = place.Meter (length before.meters) in
+meter_made format shared sound_shared recorders before table after e0 so_far =
     let number = length before.meters in
-    after_ok (meter_of at table) _ after e0 (λ meter textual e1.
+    let at = place.Meter number in
+    after_ok (meter_of (format == 3) at table) _ after e0 (λ meter textual e1.
     after_ok (tables_field (faults_at (field_at at fields.Instrument)) (512 - length before.instruments) (codes "instrument") table) _ after e1 (λ tables listed e2.
-    let (new, e3) = require_ok (not (list_any (is_meter meter) before.meters)) (At DuplicateMeter (field_at at fields.Name)) _ after e2 in
-    after_ok (each (instrument_of format shared number) before.instruments tables) _ after e3 (λ instruments made e4.
+    after_ok (groups_field format (field_at at fields.Group) table) _ after e2 (λ groups _ e3.
+    let (new, e4) = require_ok (not (list_any (is_meter meter) before.meters)) (At DuplicateMeter (field_at at fields.Name)) _ after e3 in
+    after_ok (instruments_added format shared recorders number meter.name tables groups before.instruments) _ after e4 (λ instruments made e5.
     let all : Metered = record { meters = before.meters ++ meter ∷ []; instruments = instruments } in
     let long : length all.meters ≡ number + 1 = length-append before.meters (meter ∷ []) in
     let short = tables_few (faults_at (field_at at fields.Instrument)) (512 - length before.instruments) (codes "instrument") table tables listed in
-    let count = each_length (instrument_of format shared number) before.instruments tables instruments made in
-    let few = so_far.few in
-    let earlier : AreSound (IsSoundInstrument (number + 1)) AreInstrumentsApart before.instruments = record {
-      each = λ k d within. one_more number (get_or before.instruments k d) (so_far.instruments.each k d within);
-      apart = so_far.instruments.apart;
+    let earlier : AreInstruments (number + 1) before.instruments = record {
+      sound = record {
+        each = λ k d within. one_more number (get_or before.instruments k d) (so_far.instruments.each k d within);
+        apart = so_far.instruments.apart;
+      };
+      few = so_far.few;
     } in
-    let later = each_sound (IsSoundInstrument (number + 1)) AreInstrumentsApart (instrument_of format shared number) (instrument_made format shared sound_shared number (number + 1) (omega arith)) before.instruments tables instruments made earlier in
+    let later = added_made format shared sound_shared recorders number meter.name tables groups before.instruments instruments short made earlier in
     let next : IsNext IsSoundMeter (λ m o. m ≢ o) before.meters meter = record {
-      sound = texts_made at table meter textual;
+      sound = texts_made (format == 3) at table meter textual;
       apart = apart_by (λ m o. m ≢ o) (is_meter meter) before.meters meter (meters_apart meter) new;
     } in
     let sound : IsSoundSoFar all = record {
       meters = sound_push IsSoundMeter (λ m o. m ≢ o) before.meters meter so_far.meters next;
-      instruments = subst (λ (n : ℕ). AreSound (IsSoundInstrument n) AreInstrumentsApart instruments) (sym long) later;
-      few = omega arith;
+      instruments = subst (λ (n : ℕ). AreSound (IsSoundInstrument n) AreInstrumentsApart instruments) (sym long) later.sound;
+      few = later.few;
     } in
-    let same = ok_is all after (Ok all) refl e4 in
-    (subst IsSoundSoFar same sound, subst (λ (m : Metered). length m.meters ≡ number + 1) same long))))
+    let same = ok_is all after (Ok all) refl e5 in
+    (subst IsSoundSoFar same sound, subst (λ (m : Metered). length m.meters ≡ number + 1) same long)))))
 
 -- all the meters of a file
-meters_made : (format : ℕ) (shared : List SharedKey) → All IsSoundShared shared → (before : Metered) (tables : List Members) (after : Metered) → in_turn (with_meter format shared) before tables ≡ Ok after
+meters_made : (format : ℕ) (shared : List SharedKey) → All IsSoundShared shared → (recorders : List Members) (before : Metered) (tables : List Members) (after : Metered) → in_turn (with_meter format shared recorders) before tables ≡ Ok after
     → IsSoundSoFar before → IsSoundSoFar after × (length after.meters ≡ length before.meters + length tables)
-meters_made format shared sound_shared before [] after e so_far =
+meters_made format shared sound_shared recorders before [] after e so_far =
     let same = ok_is before after (Ok before) refl e in
     let none : length before.meters ≡ length before.meters + 0 = omega arith in
     (subst IsSoundSoFar same so_far, subst (λ (m : Metered). length m.meters ≡ length before.meters + 0) same none)
-meters_made format shared sound_shared before (table ∷ tables) after e so_far =
-    after_ok (with_meter format shared before table) _ after e (λ next made rest.
-    let (sound, one) = meter_made format shared sound_shared before table next made so_far in
-    let (all, more) = meters_made format shared sound_shared next tables after rest sound in
+meters_made format shared sound_shared recorders before (table ∷ tables) after e so_far =
+    after_ok (with_meter format shared recorders before table) _ after e (λ next made rest.
+    let (sound, one) = meter_made format shared sound_shared recorders before table next made so_far in
+    let (all, more) = meters_made format shared sound_shared recorders next tables after rest sound in
     (all, omega arith))
 
 below_made : (count : ℕ) (z : ℤ) (n : ℕ) → number_below count z ≡ Some n → n < count
@@ -231,7 +289,7 @@ declared_made : (format : ℕ) (keys meters recorders : List Members) (c : Conte
 unfolding contents_declared
 declared_made format keys meters recorders c few_meters few_recorders e0 =
     after_ok (each shared_key [] keys) _ c e0 (λ shared keyed e1.
-    after_ok (in_turn (with_meter format shared) nothing_metered meters) _ c e1 (λ metered made e2.
+    after_ok (in_turn (with_meter format shared recorders) nothing_metered meters) _ c e1 (λ metered made e2.
     after_ok (recorders_declared format metered recorders) _ c e2 (λ declared recorded e3.
     let known : All IsSoundShared shared = (each_sound IsSoundShared (λ _ _. Unit {0}) shared_key shared_made [] keys shared keyed (sound_none IsSoundShared (λ _ _. Unit {0}))).each in
     let first : IsSoundSoFar nothing_metered = record {
@@ -239,11 +297,11 @@ declared_made format keys meters recorders c few_meters few_recorders e0 =
       instruments = sound_none (IsSoundInstrument 0) AreInstrumentsApart;
       few = omega arith;
     } in
-    let (all, long) = meters_made format shared known nothing_metered meters metered made first in
+    let (all, long) = meters_made format shared known recorders nothing_metered meters metered made first in
     let read : Contents = record { format = declared_format format; meters = metered.meters; instruments = metered.instruments; recorders = declared } in
     let sound : IsSound read = record {
       format = one_or_two (format == 1);
-      plain = λ one. meters_plain format shared meters metered made (only_first format one);
+      plain = λ one. meters_plain format shared recorders meters metered made (only_first format one);
       meters = record { few = omega arith; each = all.meters.each; apart = all.meters.apart };
       instruments = record { few = all.few; each = all.instruments.each; apart = all.instruments.apart };
       recorders = recorders_made format metered recorders declared all.few few_recorders recorded;

@@ -1,32 +1,37 @@
 -- What is read as a text or a key is sound.
-use Rattle.std.proofs.Common.{◌≡◌, ◌≢◌, ℕ, ◌+◌, ◌<◌, Bool, true, false, cond, not, ◌||◌, ◌==◌, List, [], ◌∷◌, ◌++◌, length, Option, Some, None, is_some, Ok, refl, sym, subst, ◌∙◌, arith, codes, nat_le, nat_lt, append_assoc, append-nil, true≢false, unwrap_or}
+use Rattle.std.proofs.Common.{◌≡◌, ◌≢◌, ℕ, ℤ, ◌+◌, ◌<◌, ◌≤◌, All, map, Err, Bool, true, false, cond, not, ◌||◌, ◌==◌, List, [], ◌∷◌, ◌++◌, length, Option, Some, None, is_some, Ok, refl, sym, subst, ◌∙◌, arith, codes, nat_le, nat_lt, append_assoc, append-nil, true≢false, unwrap_or}
 use Rattle.std.proofs.lemmas.Bool.Decides.{nat_tests}
+use Rattle.std.proofs.lemmas.List.{length-append}
+use Rattle.std.proofs.lemmas.List.FromFn.{length-map-range_with_len}
 use Rattle.std.proofs.lemmas.List.Kept.{AllPairs-cons}
-use Rattle.std.proofs.lemmas.List.Elements.{All-cons, All-from_recursion}
+use Rattle.std.proofs.lemmas.List.Elements.{All-append, All-cons, All-from_recursion, All-push}
 use Rattle.std.proofs.lemmas.List.Quantifiers.{all_pairs_push}
-use Rattle.std.specs.List.{AllByRecursion, AllPairs, list_any, position_from}
+use Rattle.std.specs.List.{AllByRecursion, AllPairs, list_any, position_from, range_with_len}
 use Rattle.std.specs.Str.{bytes_eq, chars}
-use Rattle.toml.specs.Data.{Data, Members, string, integer, boolean}
+use Rattle.toml.specs.Data.{Data, Members, string, integer, float, boolean, datetime, array, table as table_data}
+use Rattle.metric_base.specs.Steps.{in_turn}
 use Rattle.metric_base.specs.StepLaws.{after_ok, require_ok, ok_is}
 use Rattle.metric_names.specs.declared.value.AttrValue.{AttrValue}
 use Rattle.metric_names.specs.declared.value.AttrValue.TheVariants.{Text, Whole, Flag}
 use Rattle.metric_table.specs.Fields.{field, list_of, optional_text, short_text, text_field}
 use Rattle.metric_contents.specs.declared.contents.Key.{Key}
-use Rattle.metric_catalogue.specs.declared.fault.CatalogueDefect.TheVariants.{BadName, DuplicateKey, DuplicateValue, MissingField, ReservedKey, TooMany}
+use Rattle.metric_catalogue.specs.declared.fault.CatalogueDefect.TheVariants.{BadName, DuplicateKey, DuplicateValue, MissingField, ReservedKey, TooMany, WrongKind}
 use Rattle.metric_catalogue.specs.declared.fault.CatalogueFault.TheVariants.{At}
 use Rattle.metric_catalogue.specs.declared.fault.CataloguePlace.{CataloguePlace}
 use Rattle.metric_catalogue.specs.declared.fault.CataloguePlace.TheVariants as places
 use Rattle.metric_catalogue.specs.declared.fault.CatalogueSpot.{CatalogueSpot}
 use Rattle.metric_catalogue.specs.declared.fault.CatalogueField.TheVariants as fields
 use Rattle.metric_catalogue.specs.Faults.{entry_at, faults_at, field_at}
-use Rattle.metric_catalogue.specs.Keys.{key_name, key_named, key_of, next_value, only_key_fields, optional_field, some_values, value_at, values_field, values_with}
+use Rattle.metric_catalogue.specs.declared.values.Listing.{Listing}
+use Rattle.metric_catalogue.specs.Keys.{key_name, key_named, key_of, only_key_fields, optional_field, values_with}
+use Rattle.metric_catalogue.specs.KeyValues.{nothing_listed, nth_from, some_values, span_length, span_of, spread, value_at, values_field, values_listed, with_entry, with_span, with_table, with_value, with_values}
 use Rattle.metric_contents.specs.KeyNames.{is_key}
 use Rattle.metric_contents.specs.SameValues.{same_value-Decides}
 use Rattle.metric_contents.specs.Places.{has_repeat, place, repeats_after, same_value}
 use Rattle.metric_catalogue.specs.Sound.{IsFreeText, IsLabel, IsSoundKey, IsSoundList, IsSoundValue}
 use Rattle.metric_catalogue.specs.Texts.{free_text, label_field, label_of, needed_text}
 use Rattle.std.proofs.lemmas.Bool.{not-true, or_parts}
-use Rattle.metric_catalogue.proofs.SoundLists.{AreSound, IsNext, apart_by, each_length, list_few, made_sound, sound_push, texts_apart}
+use Rattle.metric_catalogue.proofs.SoundLists.{IsNext, apart_by, texts_apart}
 
 -- a short text is the text, and is a free text
 short_made : (at : CatalogueSpot) (text name : List ℕ) → short_text (faults_at at) text ≡ Ok name → (text ≡ name) × IsFreeText name
@@ -94,31 +99,109 @@ differ_after before (value ∷ left) all e =
     let more = all_pairs_push (λ v w. v ≢ w) before value all (λ k d within. apart k d within) in
     subst (AllPairs (λ (v w : AttrValue). v ≢ w)) (append_assoc before (value ∷ []) left) (differ_after (before ++ value ∷ []) left more rest)
 
--- each value by itself
-value_next : (at : CatalogueSpot) (before : List AttrValue) (d : Data) (value : AttrValue) → next_value at before d ≡ Ok value → IsNext IsSoundValue (λ _ _. Unit {0}) before value
-value_next at before d value e = record { sound = value_made (entry_at at (length before)) d value e; apart = λ k x within. tt }
+-- values of which each is sound, as many as there may be
+record AreListed (values : List AttrValue) : Type 0 where
+  few : length values ≤ 1000
+  each : All IsSoundValue values
 
-some_made : (at : CatalogueSpot) (table : Members) (values : List AttrValue) → some_values at table ≡ Ok values → (0 < length values) × IsSoundList 1000 IsSoundValue (λ _ _. Unit {0}) values
-unfolding some_values
-some_made at table values e0 =
+-- the same with one more at least
+abbrev AddsSome : List AttrValue → List AttrValue → Type 0
+AddsSome before after = AreListed after × (length before + 1 ≤ length after)
+
+-- each number of a range is a sound value
+numbers_sound : (first : ℤ) (places : List ℕ) → All IsSoundValue (map (nth_from first) places)
+numbers_sound first [] = λ k d within. absurd (omega arith)
+numbers_sound first (place ∷ places) = All-cons IsSoundValue (nth_from first place) (map (nth_from first) places) tt (numbers_sound first places)
+
+span_added : (list at : CatalogueSpot) (before : List AttrValue) (table : Members) (after : List AttrValue) → with_span list at before table ≡ Ok after → AreListed before → AddsSome before after
+unfolding with_span
+span_added list at before table after e0 sound =
+    after_ok (span_of at table) _ after e0 (λ span _ e1.
+    let (fits, e2) = require_ok (nat_le (length before + span_length span) 1000) (At TooMany list) _ after e1 in
+    let more : List AttrValue = spread span in
+    let made : List AttrValue = before ++ more in
+    let long : length made ≡ length before + length more = length-append before more in
+    let count : length more ≡ span_length span = length-map-range_with_len (nth_from span.0) 0 (span_length span) in
+    let within : length before + span_length span ≤ 1000 = grind (arith, nat_tests) in
+    let numbers : All IsSoundValue more = numbers_sound span.0 (range_with_len 0 (span_length span)) in
+    let all : AreListed made = record { few = omega (arith, long, count, within); each = All-append IsSoundValue before more sound.each numbers } in
+    let adds : AddsSome before made = (all, omega (arith, long, count)) in
+    subst (AddsSome before) (ok_is made after (Ok made) refl e2) adds)
+
+value_added : (list at : CatalogueSpot) (before : List AttrValue) (d : Data) (after : List AttrValue) → with_value list at before d ≡ Ok after → AreListed before → AddsSome before after
+unfolding with_value
+value_added list at before d after e0 sound =
+    after_ok (value_at at d) _ after e0 (λ value read e1.
+    let (fits, e2) = require_ok (nat_lt (length before) 1000) (At TooMany list) _ after e1 in
+    let made : List AttrValue = before ++ value ∷ [] in
+    let long : length made ≡ length before + 1 = length-append before (value ∷ []) in
+    let within : length before < 1000 = grind (arith, nat_tests) in
+    let all : AreListed made = record { few = omega (arith, long, within); each = All-push IsSoundValue before value sound.each (value_made at d value read) } in
+    let adds : AddsSome before made = (all, omega (arith, long)) in
+    subst (AddsSome before) (ok_is made after (Ok made) refl e2) adds)
+
+table_added : (format : ℕ) (list at : CatalogueSpot) (before : List AttrValue) (table : Members) (after : List AttrValue) → with_table format list at before table ≡ Ok after → AreListed before → AddsSome before after
+table_added format list at before table after e sound = by (format == 3) e
+  where
+    by : (b : Bool) → cond b (with_span list at before table) (Err (At WrongKind at)) ≡ Ok after → AddsSome before after
+    by true told = span_added list at before table after told sound
+    by false told = absurd cc
+
+values_added : (format : ℕ) (list at : CatalogueSpot) (before : List AttrValue) (d : Data) (after : List AttrValue) → with_values format list at before d ≡ Ok after → AreListed before → AddsSome before after
+values_added format list at before (table_data table) after e sound = table_added format list at before table after e sound
+values_added format list at before (string x) after e sound = value_added list at before (string x) after e sound
+values_added format list at before (integer x) after e sound = value_added list at before (integer x) after e sound
+values_added format list at before (float x) after e sound = value_added list at before (float x) after e sound
+values_added format list at before (boolean x) after e sound = value_added list at before (boolean x) after e sound
+values_added format list at before (datetime x) after e sound = value_added list at before (datetime x) after e sound
+values_added format list at before (array x) after e sound = value_added list at before (array x) after e sound
+
+entry_added : (format : ℕ) (at : CatalogueSpot) (before : Listing) (d : Data) (after : Listing) → with_entry format at before d ≡ Ok after → AreListed before.values → AddsSome before.values after.values
+unfolding with_entry
+entry_added format at before d after e0 sound =
+    after_ok (with_values format at (entry_at at before.entries) before.values d) _ after e0 (λ values made e1.
+    let listing : Listing = record { entries = before.entries + 1; values = values } in
+    let adds = values_added format at (entry_at at before.entries) before.values d values made sound in
+    subst (λ (l : Listing). AddsSome before.values l.values) (ok_is listing after (Ok listing) refl e1) adds)
+
+-- the values of all entries, of which each stands for one at least
+entries_added : (format : ℕ) (at : CatalogueSpot) (before : Listing) (ds : List Data) (after : Listing) → in_turn (with_entry format at) before ds ≡ Ok after → AreListed before.values
+    → AreListed after.values × (length before.values + length ds ≤ length after.values)
+entries_added format at before [] after e sound =
+    let same = ok_is before after (Ok before) refl e in
+    let none : length before.values + 0 ≤ length before.values = omega arith in
+    (subst (λ (l : Listing). AreListed l.values) same sound, subst (λ (l : Listing). length before.values + 0 ≤ length l.values) same none)
+entries_added format at before (d ∷ ds) after e sound =
+    after_ok (with_entry format at before d) _ after e (λ next made rest.
+    let (listed, one) = entry_added format at before d next made sound in
+    let (all, more) = entries_added format at next ds after rest listed in
+    (all, omega (arith, one, more)))
+
+some_made : (format : ℕ) (at : CatalogueSpot) (table : Members) (values : List AttrValue) → some_values format at table ≡ Ok values → (0 < length values) × AreListed values
+unfolding some_values values_listed
+some_made format at table values e0 =
     after_ok (field (faults_at at) (codes "values") table) _ values e0 (λ d _ e1.
-    after_ok (list_of (faults_at at) 1000 d) _ values e1 (λ ds listed e2.
+    after_ok (list_of (faults_at at) 1000 d) _ values e1 (λ ds _ e2.
     let (full, e3) = require_ok (not (length ds == 0)) (At MissingField at) _ values e2 in
-    let same = each_length (next_value at) [] ds values e3 in
+    after_ok (in_turn (with_entry format at) nothing_listed ds) _ values e3 (λ listing made e4.
     let some : 0 < length ds = grind (arith, nat_tests) in
-    (omega arith, made_sound 1000 IsSoundValue (λ _ _. Unit {0}) (next_value at) (value_next at) ds values e3 (list_few (faults_at at) 1000 d ds listed))))
+    let none : AreListed [] = record { few = omega arith; each = λ k d within. absurd (omega arith) } in
+    let (all, more) = entries_added format at nothing_listed ds listing made none in
+    let long : 0 < length listing.values = omega (arith, some, more) in
+    let same = ok_is listing.values values (Ok listing.values) refl e4 in
+    (subst (λ (vs : List AttrValue). 0 < length vs) same long, subst AreListed same all))))
 
 -- distinct values of which each is sound, and there is one
 abbrev AreValues : List AttrValue → Type 0
 AreValues values = (0 < length values) × IsSoundList 1000 IsSoundValue (λ value other. value ≢ other) values
 
-values_made : (at : CatalogueSpot) (table : Members) (values : List AttrValue) → values_field at table ≡ Ok values → AreValues values
+values_made : (format : ℕ) (at : CatalogueSpot) (table : Members) (values : List AttrValue) → values_field format at table ≡ Ok values → AreValues values
 unfolding values_field
-values_made at table values e0 =
-    after_ok (some_values at table) _ values e0 (λ vs made e1.
+values_made format at table values e0 =
+    after_ok (some_values format at table) _ values e0 (λ vs made e1.
     let (distinct, e2) = require_ok (not (has_repeat vs)) (At DuplicateValue at) _ values e1 in
     let same = ok_is vs values (Ok vs) refl e2 in
-    let (some, sound) = some_made at table values (made ∙ e2) in
+    let (some, sound) = some_made format at table values (made ∙ e2) in
     let differ = differ_after [] vs (λ i j d before within. absurd (omega arith)) (not-true (has_repeat vs) distinct) in
     (some, record { few = sound.few; each = sound.each; apart = subst (AllPairs (λ (v w : AttrValue). v ≢ w)) same differ }))
 
@@ -143,17 +226,17 @@ other_made at values (Some other) all e0 sound =
     by short own false fresh fits = let few : length values < 1000 = grind (arith, nat_tests) in value_more values (Text short) few own fresh sound
 
 -- what a key of a name declares
-pub key_is_sound : (at : CataloguePlace) (text : List ℕ) (table : Members) (key : Key) → key_named at text table ≡ Ok key → IsSoundKey key
+pub key_is_sound : (format : ℕ) (at : CataloguePlace) (text : List ℕ) (table : Members) (key : Key) → key_named format at text table ≡ Ok key → IsSoundKey key
 unfolding key_named
-key_is_sound at text table key e0 =
+key_is_sound format at text table key e0 =
     let other_at = field_at at fields.Other in
     after_ok (key_name at text) _ key e0 (λ name named e1.
-    after_ok (values_field (field_at at fields.Values) table) _ key e1 (λ values valued e2.
+    after_ok (values_field format (field_at at fields.Values) table) _ key e1 (λ values valued e2.
     after_ok (optional_text (faults_at other_at) (codes "other") table) _ key e2 (λ other _ e3.
     after_ok (values_with other_at values other) _ key e3 (λ all more e4.
     after_ok (optional_field (field_at at fields.Optional) table) _ key e4 (λ optional _ e5.
     let (label, own) = name_made at text name named in
-    let (some, distinct) = other_made other_at values other all more (values_made (field_at at fields.Values) table values valued) in
+    let (some, distinct) = other_made other_at values other all more (values_made format (field_at at fields.Values) table values valued) in
     let made : Key = record { name = name; values = all; optional = optional } in
     let sound : IsSoundKey made = record { name = label; not_reserved = own; some = some; values = distinct } in
     subst IsSoundKey (ok_is made key (Ok made) refl e5) sound)))))
@@ -165,13 +248,13 @@ next_key before key sound new = record {
   apart = apart_by (λ o k. o.name ≢ k.name) (is_key key.name) before key (λ o h. texts_apart o.name key.name h) new;
 }
 
-pub key_made : (instrument : ℕ) (before : List Key) (table : Members) (key : Key) → key_of instrument before table ≡ Ok key → IsNext IsSoundKey (λ other k. other.name ≢ k.name) before key
+pub key_made : (format instrument : ℕ) (before : List Key) (table : Members) (key : Key) → key_of format instrument before table ≡ Ok key → IsNext IsSoundKey (λ other k. other.name ≢ k.name) before key
 unfolding key_of
-key_made instrument before table key e0 =
+key_made format instrument before table key e0 =
     let at = places.Key instrument (length before) in
     let name_at = field_at at fields.Name in
     after_ok (only_key_fields at table) _ key e0 (λ _ _ e1.
     after_ok (text_field (faults_at name_at) (codes "name") table) _ key e1 (λ text _ e2.
-    after_ok (key_named at text table) _ key e2 (λ made named e3.
+    after_ok (key_named format at text table) _ key e2 (λ made named e3.
     let (new, e4) = require_ok (not (list_any (is_key made.name) before)) (At DuplicateKey name_at) _ key e3 in
-    subst (IsNext IsSoundKey (λ o k. o.name ≢ k.name) before) (ok_is made key (Ok made) refl e4) (next_key before made (key_is_sound at text table made named) new))))
+    subst (IsNext IsSoundKey (λ o k. o.name ≢ k.name) before) (ok_is made key (Ok made) refl e4) (next_key before made (key_is_sound format at text table made named) new))))

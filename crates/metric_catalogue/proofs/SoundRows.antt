@@ -1,11 +1,11 @@
 -- What is read as allowed combinations is sound.
-use Rattle.std.proofs.Common.{◌≡◌, ◌≢◌, ℕ, ℤ, zero, suc, pos, negsuc, ◌+◌, ◌-◌, ◌≤◌, Bool, true, not, ◌&&◌, List, [], ◌∷◌, ◌++◌, length, map, replicate, Option, Some, None, Ok, refl, sym, ap, subst, ◌∙◌, arith, codes, IfSome}
+use Rattle.std.proofs.Common.{◌≡◌, ◌≢◌, ℕ, ℤ, zero, suc, pos, negsuc, ◌+◌, ◌-◌, ◌≤◌, Bool, true, not, ◌&&◌, List, [], ◌∷◌, ◌++◌, length, map, replicate, Option, Some, None, is_some, cond, Ok, refl, sym, ap, subst, ◌∙◌, arith, codes, IfSome}
 use Rattle.std.proofs.lemmas.Bool.{and_parts}
 use Rattle.std.proofs.lemmas.List.{length-append, length-map, length-replicate}
 use Rattle.std.specs.List.{list_all}
 use Rattle.std.specs.Prelude.{◌==◌, unsigned_abs}
 use Rattle.std.specs.Str.{bytes_eq}
-use Rattle.toml.specs.Data.{Data, Members, get_member}
+use Rattle.toml.specs.Data.{Data, Members, no_members, get_member}
 use Rattle.metric_base.specs.Steps.{each}
 use Rattle.metric_base.specs.StepLaws.{after_ok, require_ok, ok_is}
 use Rattle.metric_combinations.specs.Combinations.{allows}
@@ -16,6 +16,7 @@ use Rattle.metric_catalogue.specs.declared.fault.CatalogueFault.TheVariants.{At}
 use Rattle.metric_catalogue.specs.declared.fault.CatalogueSpot.{CatalogueSpot}
 use Rattle.metric_catalogue.specs.Allowed.{allowed_field, allowed_of, is_entry_of, is_row, row_of, row_set, rows_within, set_of_row}
 use Rattle.metric_catalogue.specs.Faults.{entry_at, faults_at}
+use Rattle.metric_catalogue.specs.Holding.{holder}
 use Rattle.metric_contents.specs.KeySets.{is_key_entry, is_key_set}
 use Rattle.metric_catalogue.specs.Sound.{AreSoundRows, IsSoundRow}
 use Rattle.metric_catalogue.proofs.SoundLists.{IsNext, apart_by, list_few, made_sound, texts_apart}
@@ -80,6 +81,10 @@ allowed_made at keys few (Some rows) listed allowed e0 =
     subst (λ (o : Option (List (List ℕ))). IfSome o (AreSoundRows keys)) (ok_is (Some sets) allowed (Ok (Some sets)) refl e1)
     (made_sound 4096 (IsSoundRow keys) (λ r o. r ≢ o) (row_of at keys) (row_made at keys few) rows sets made listed))
 
+-- without a group, a table without a field has none
+pub held_none : (name : List ℕ) (table : Members) → get_member name table ≡ None → get_member name (holder name no_members table) ≡ None
+held_none name table none = ap (λ (o : Option Data). get_member name (cond (is_some o) table no_members)) none
+
 few_within : (at : CatalogueSpot) (d : Option Data) (rows : Option (List Data)) → rows_within at d ≡ Ok rows → IfSome rows (λ ds. length ds ≤ 4096)
 few_within at None rows e = subst (λ (o : Option (List Data)). IfSome o (λ ds. length ds ≤ 4096)) (ok_is None rows (Ok None) refl e) tt
 few_within at (Some d) rows e0 =
@@ -87,11 +92,11 @@ few_within at (Some d) rows e0 =
     subst (λ (o : Option (List Data)). IfSome o (λ ds. length ds ≤ 4096)) (ok_is (Some values) rows (Ok (Some values)) refl e1) (list_few (faults_at at) 4096 d values made))
 
 -- a table lists a few rows
-pub rows_few : (at : CatalogueSpot) (table : Members) (rows : Option (List Data)) → allowed_field at table ≡ Ok rows → IfSome rows (λ ds. length ds ≤ 4096)
+pub rows_few : (at : CatalogueSpot) (group table : Members) (rows : Option (List Data)) → allowed_field at group table ≡ Ok rows → IfSome rows (λ ds. length ds ≤ 4096)
 unfolding allowed_field
-rows_few at table rows e = few_within at (get_member (codes "allowed") table) rows e
+rows_few at group table rows e = few_within at (get_member (codes "allowed") (holder (codes "allowed") group table)) rows e
 
 -- a table that has no such field lists none
-pub rows_none : (at : CatalogueSpot) (table : Members) (rows : Option (List Data)) → get_member (codes "allowed") table ≡ None → allowed_field at table ≡ Ok rows → rows ≡ None
+pub rows_none : (at : CatalogueSpot) (table : Members) (rows : Option (List Data)) → get_member (codes "allowed") table ≡ None → allowed_field at no_members table ≡ Ok rows → rows ≡ None
 unfolding allowed_field
-rows_none at table rows none e = sym (ok_is None rows (Ok None) refl (sym (ap (rows_within at) none) ∙ e))
+rows_none at table rows none e = sym (ok_is None rows (Ok None) refl (sym (ap (rows_within at) (held_none (codes "allowed") table none)) ∙ e))

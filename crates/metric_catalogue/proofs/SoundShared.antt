@@ -31,9 +31,9 @@ shared_made before table shared e0 =
     after_ok (key_id at table) _ shared e0 (λ id _ e1.
     let (_, e2) = require_ok (not (list_any (has_id id) before)) (At DuplicateKey (field_at at fields.Id)) _ shared e1 in
     after_ok (optional_text (faults_at (field_at at fields.Name)) (codes "name") table) _ shared e2 (λ text _ e3.
-    after_ok (key_named at (unwrap_or text id) table) _ shared e3 (λ key made e4.
+    after_ok (key_named 3 at (unwrap_or text id) table) _ shared e3 (λ key made e4.
     let all : SharedKey = record { id = id; key = key } in
-    record { sound = subst IsSoundShared (ok_is all shared (Ok all) refl e4) (key_is_sound at (unwrap_or text id) table key made); apart = λ k d within. tt })))
+    record { sound = subst IsSoundShared (ok_is all shared (Ok all) refl e4) (key_is_sound 3 at (unwrap_or text id) table key made); apart = λ k d within. tt })))
 
 -- what is found is one of the list
 found_holds : {X : Type 0} (P : X → Type 0) (test : X → Bool) (xs : List X) (x : X) → find test xs ≡ Some x → All P xs → P x
@@ -53,11 +53,11 @@ by_id_made at shared known before id key e0 =
     let sound = found_holds IsSoundShared (has_id id) shared found (value_made (find (has_id id) shared) (At UnknownKey at) found is) known in
     subst (IsNext IsSoundKey (λ o k. o.name ≢ k.name) before) (ok_is found.key key (Ok found.key) refl e2) (next_key before found.key sound new))
 
-pub entry_made : (shared : List SharedKey) → All IsSoundShared shared → (instrument : ℕ) (before : List Key) (d : Data) (key : Key) → key_entry shared instrument before d ≡ Ok key
+pub entry_made : (format : ℕ) (shared : List SharedKey) → All IsSoundShared shared → (instrument : ℕ) (before : List Key) (d : Data) (key : Key) → key_entry format shared instrument before d ≡ Ok key
     → IsNext IsSoundKey (λ other k. other.name ≢ k.name) before key
-entry_made shared known instrument before (table_data table) key e = key_made instrument before table key e
-entry_made shared known instrument before (string id) key e = by_id_made (entry_place instrument before) shared known before id key e
-entry_made shared known instrument before _ key e = absurd cc
+entry_made format shared known instrument before (table_data table) key e = key_made format instrument before table key e
+entry_made format shared known instrument before (string id) key e = by_id_made (entry_place instrument before) shared known before id key e
+entry_made format shared known instrument before _ key e = absurd cc
 
 within_few : (at : CatalogueSpot) (d : Option Data) (entries : List Data) → entries_within at d ≡ Ok entries → length entries ≤ 8
 within_few at None entries e = subst (λ (ds : List Data). length ds ≤ 8) (ok_is [] entries (Ok []) refl e) (omega arith)

@@ -13,6 +13,7 @@ use Rattle.metric_catalogue.specs.declared.fault.CatalogueDefect.TheVariants.{Du
 use Rattle.metric_catalogue.specs.declared.fault.CatalogueFault.TheVariants.{At}
 use Rattle.metric_catalogue.specs.declared.fault.CatalogueSpot.{CatalogueSpot}
 use Rattle.metric_catalogue.specs.Faults.{entry_at, faults_at}
+use Rattle.metric_catalogue.specs.Holding.{holder}
 use Rattle.metric_contents.specs.KeySets.{is_key_entry}
 
 -- the rows of a list, where there is one
@@ -25,8 +26,10 @@ rows_within at (Some d) = do
 -- # allowed combinations (profile) [allowed_field, allowed_of, row_of]
 -- The set keys of the rows that the table lists, of which none stands twice; nothing where it lists
 -- none.
-unfoldable pub allowed_field : CatalogueSpot → Members → Result (Option (List Data)) CatalogueFault
-allowed_field at table = rows_within at (get_member (codes "allowed") table)
+unfoldable pub allowed_field : CatalogueSpot → Members → Members
+    → Result (Option (List Data)) CatalogueFault
+allowed_field at group table =
+    rows_within at (get_member (codes "allowed") (holder (codes "allowed") group table))
 
 -- whether a whole number is an entry of a key
 abbrev pub is_entry_of : Key → ℤ → Bool

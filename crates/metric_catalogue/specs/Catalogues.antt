@@ -73,7 +73,7 @@ unfoldable pub contents_declared : ℕ → List Members → List Members → Lis
     → Result Contents CatalogueFault
 contents_declared format keys meters recorders = do
   shared ← each shared_key [] keys
-  metered ← in_turn (with_meter format shared) nothing_metered meters
+  metered ← in_turn (with_meter format shared recorders) nothing_metered meters
   declared ← recorders_declared format metered recorders
   Ok (record {
     format = declared_format format;

@@ -5,14 +5,16 @@ use Rattle.metric_catalogue.specs.declared.fault.CatalogueField.TheVariants as f
 use Rattle.metric_catalogue.specs.declared.fault.CataloguePlace.{CataloguePlace}
 use Rattle.metric_catalogue.specs.declared.fault.CataloguePlace.TheVariants as place
 use Rattle.metric_catalogue.specs.Catalogues.{top_names}
-use Rattle.metric_catalogue.specs.Meters.{meter_fields}
+use Rattle.metric_catalogue.specs.Meters.{meter_names}
+use Rattle.metric_catalogue.specs.Groups.{group_fields}
 use Rattle.metric_catalogue.specs.Instruments.{instrument_fields}
 use Rattle.metric_catalogue.specs.Keys.{key_fields}
+use Rattle.metric_catalogue.specs.KeyValues.{span_fields}
 use Rattle.metric_catalogue.specs.Recorders.{budget_fields, recorder_fields}
 use Rattle.metric_catalogue.specs.Seats.{seat_fields}
 use Rattle.metric_catalogue.specs.SharedKeys.{shared_fields}
 
--- # names of fields (profile) [field_name, names_at]
+-- # names of fields (profile) [field_name, names_at, names_in]
 -- The name of each field, and those that a table has in a format.
 abbrev pub field_name : CatalogueField → List ℕ
 field_name fields.Unknown = []
@@ -24,6 +26,7 @@ field_name fields.Name = codes "name"
 field_name fields.Version = codes "version"
 field_name fields.SchemaUrl = codes "schema_url"
 field_name fields.Instrument = codes "instrument"
+field_name fields.Group = codes "group"
 field_name fields.Kind = codes "kind"
 field_name fields.Unit = codes "unit"
 field_name fields.Description = codes "description"
@@ -42,9 +45,15 @@ field_name fields.Amount = codes "amount"
 -- the names of the fields of a table in this format
 abbrev pub names_at : ℕ → CataloguePlace → List (List ℕ)
 names_at format place.Top = top_names (format == 3)
-names_at format (place.Meter number) = meter_fields
+names_at format (place.Meter number) = meter_names (format == 3)
 names_at format (place.Instrument number) = instrument_fields format
 names_at format (place.Key number key) = key_fields
 names_at format (place.SharedKey number) = shared_fields
 names_at format (place.Recorder number) = if format == 3 then seat_fields else recorder_fields
 names_at format (place.Budget number budget) = budget_fields
+
+-- the names of the fields of a table that stands in the list of a field
+abbrev pub names_in : CatalogueField → List (List ℕ)
+names_in fields.Values = span_fields
+names_in fields.Group = group_fields
+names_in _ = []

@@ -32,7 +32,7 @@ recorder_fields = codes "name" ∷ codes "budget" ∷ []
 unfoldable pub budget_fields : List (List ℕ)
 budget_fields = codes "instrument" ∷ codes "amount" ∷ []
 
--- a whole number that a budget needs
+-- a whole number that a budget or a range needs
 unfoldable pub number_field : CatalogueSpot → List ℕ → Members → Result ℤ CatalogueFault
 number_field at name table = do
   d ← field (faults_at at) name table

@@ -43,7 +43,7 @@ shared_key before table = do
   id ← key_id at table
   _ ← require (not (list_any (has_id id) before)) (At DuplicateKey (field_at at fields.Id))
   text ← optional_text (faults_at (field_at at fields.Name)) (codes "name") table
-  key ← key_named at (unwrap_or text id) table
+  key ← key_named 3 at (unwrap_or text id) table
   Ok (record { id = id; key = key })
 
 abbrev pub is_table : Data → Bool
@@ -76,8 +76,9 @@ abbrev pub entry_place : ℕ → List Key → CatalogueSpot
 entry_place instrument before =
     entry_at (field_at (place.Instrument instrument) fields.Key) (length before)
 
-abbrev pub key_entry : List SharedKey → ℕ → List Key → Data → Result Key CatalogueFault
-key_entry shared instrument before (table_data table) = key_of instrument before table
-key_entry shared instrument before (string id) =
+abbrev pub key_entry : ℕ → List SharedKey → ℕ → List Key → Data → Result Key CatalogueFault
+key_entry format shared instrument before (table_data table) =
+    key_of format instrument before table
+key_entry format shared instrument before (string id) =
     key_by_id (entry_place instrument before) shared before id
-key_entry shared instrument before _ = Err (At WrongKind (entry_place instrument before))
+key_entry format shared instrument before _ = Err (At WrongKind (entry_place instrument before))

@@ -7,6 +7,7 @@ ghost use Rattle.metric_table.specs.Fields.{Reads, whole_in};
 ghost use Rattle.metric_catalogue.specs.Allowed.{allowed_field, allowed_of, is_entry_of, is_row, row_of, row_set, set_of_row};
 
 use crate::fault::{CatalogueDefect, CatalogueFault, CatalogueSpot};
+use crate::holding::holder;
 use crate::texts::faults_at;
 use metric_combinations::{CombinationRows, Combinations};
 use metric_contents::{Key, SetKey};
@@ -18,13 +19,14 @@ use toml::{Table, Value};
 #[tactic(auto, unfolding(crate::specs::Allowed::allowed_field))]
 pub(crate) fn allowed_field<'a>(
     table: &'a Table,
+    group: &'a Table,
     at: CatalogueSpot,
 ) -> Result<Option<&'a [Value]>, CatalogueFault>
     ensures exact { Reads (option_map (λ rows. map view rows.now)) result
-        (allowed_field at (table_view table.now)) }
+        (allowed_field at (table_view group.now) (table_view table.now)) }
     ensures few { IfOk result (λ listed. IfSome listed (λ rows. length rows.now ≤ 4096)) }
 {
-    match member(table, "allowed") {
+    match member(holder("allowed", group, table), "allowed") {
         Some(value) => {
             let rows = list_of(value, 4096, &faults_at(at))?;
             Ok(Some(rows))

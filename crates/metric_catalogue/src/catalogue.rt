@@ -1,11 +1,12 @@
 //! Reading a catalogue from TOML.
-ghost use Rattle.std.specs.Prelude.{◌≡◌, ◌≤◌, Ok, false, length, map, string_bytes, IfOk, IfSome, vec_capacity};
+ghost use Rattle.std.specs.Prelude.{◌≡◌, ◌≤◌, Ok, false, is_some, length, map, string_bytes, IfOk, IfSome, vec_capacity};
 ghost use Rattle.std.specs.Option.{option_map};
 ghost use Rattle.toml.specs.View.{table_view, view};
 ghost use Rattle.metric_base.specs.Steps.{Gives, GivesBy, in_turn};
 ghost use Rattle.metric_contents.specs.Attributes.{given_by, given_by_owned};
 ghost use Rattle.metric_contents.specs.Budgets.{budget_at, spare_at};
 ghost use Rattle.metric_contents.specs.Encoding.{encode_of};
+ghost use Rattle.metric_catalogue.specs.InFull.{fits_in_full};
 ghost use Rattle.metric_catalogue.specs.Meters.{with_meter};
 ghost use Rattle.metric_catalogue.specs.Sound.{IsSound};
 ghost use Rattle.metric_catalogue.specs.Catalogues.{catalogue_of, contents_declared, contents_of, declared_format, document_of, format_of_top, is_shared, is_three, latest_format, nothing_metered, opened_of, recorders_declared};
@@ -69,7 +70,8 @@ impl Catalogue {
 
     /// The catalogue that a text of format 1, 2 or 3 is, or its first fault. What `read` answers of a text that is not of
     /// format 3; of one that is, the same contents that a file of format 2 may have, with the faults of its own fields:
-    /// the top table first, then each key that is declared once, each meter as `read` has it, and each recorder.
+    /// the top table first, then each key that is declared once, each meter as `read` has it and its groups, and each
+    /// recorder. A fault of a field that an instrument has of its group is the instrument's.
     pub fn open(alloc: Global, text: &str) -> Result<Catalogue, CatalogueFault>
         ensures opened { Gives CatalogueFault.Memory result (opened_of text.now) }
         ensures read { is_shared text.now ≡ false
@@ -82,18 +84,16 @@ impl Catalogue {
     /// values of all keys, each time that an instrument has one, come to more than 8,388,608 bytes, with 16 more for
     /// each.
     pub fn in_full(&self, alloc: Global) -> Result<Option<String>, AllocError>
-        ensures { IfOk result (λ full. IfSome full (λ text.
+        ensures same { IfOk result (λ full. IfSome full (λ text.
             catalogue_of (string_bytes text) ≡ Ok self.now)) }
+        ensures large { IfOk result (λ full. is_some full ≡ fits_in_full self.now) }
     {
         if !fits(&self.contents) {
             return Ok(None);
         }
         let text = printed(alloc, &self.contents)?;
-        match Catalogue::read(alloc, text.as_str()) {
-            Ok(read) => Ok(if_same(text, &read, self)),
-            Err(CatalogueFault::Memory) => Err(AllocError),
-            Err(_) => Ok(None),
-        }
+        let read = Catalogue::read(alloc, text.as_str());
+        Ok(Some(if_same(text, read, self)?))
     }
 
     /// The format of the file: 1, or 2, in which an instrument may list its combinations; 2 also for one of format 3.
@@ -198,15 +198,24 @@ fn opened(alloc: Global, text: &str) -> Result<Catalogue, CatalogueFault>
     Ok(Catalogue { contents })
 }
 
-// The text that is read as a catalogue, where it declares the same as another.
-fn if_same(text: String, read: &Catalogue, other: &Catalogue) -> Option<String>
-    requires { catalogue_of (string_bytes text) ≡ Ok read.now }
-    ensures { IfSome result (λ text. catalogue_of (string_bytes text) ≡ Ok other.now) }
+// The text that was read, where it declares the same as another catalogue.
+fn if_same(
+    text: String,
+    read: Result<Catalogue, CatalogueFault>,
+    other: &Catalogue,
+) -> Result<String, AllocError>
+    requires { Gives CatalogueFault.Memory read (catalogue_of (string_bytes text)) }
+    ensures { IfOk result (λ text. catalogue_of (string_bytes text) ≡ Ok other.now) }
 {
-    if are_same_contents(&read.contents, &other.contents) {
-        Some(text)
-    } else {
-        None
+    match read {
+        Ok(read) => {
+            if are_same_contents(&read.contents, &other.contents) {
+                Ok(text)
+            } else {
+                Err(AllocError)
+            }
+        }
+        Err(_) => Err(AllocError),
     }
 }
 
@@ -264,7 +273,7 @@ fn contents_declared(
         (map (λ t. table_view t.now) recorders.now)) }
 {
     let shared = shared_keys(alloc, keys)?;
-    let metered = metered_of(alloc, meters, format, shared.as_slice())?;
+    let metered = metered_of(alloc, meters, format, shared.as_slice(), recorders)?;
     let recorders = recorders_declared(alloc, recorders, format, &metered)?;
     Ok(Contents {
         format: declared_format(format),
@@ -307,10 +316,12 @@ fn metered_of(
     tables: &[&Table],
     format: u8,
     shared: &[SharedKey],
+    recorders: &[&Table],
 ) -> Result<Metered, CatalogueFault>
     requires { length tables.now ≤ 64 }
     ensures exact { Gives CatalogueFault.Memory result
-        (in_turn (with_meter format shared.now) nothing_metered (map (λ t. table_view t.now) tables.now)) }
+        (in_turn (with_meter format shared.now (map (λ t. table_view t.now) recorders.now))
+        nothing_metered (map (λ t. table_view t.now) tables.now)) }
     ensures meters { IfOk result (λ metered. length metered.meters ≤ 64) }
     ensures instruments { IfOk result (λ metered. length metered.instruments ≤ 512) }
 {
@@ -318,7 +329,7 @@ fn metered_of(
         meters: Items::new(alloc),
         instruments: Items::new(alloc),
     };
-    add_meters(alloc, &mut metered, tables, format, shared)?;
+    add_meters(alloc, &mut metered, tables, format, shared, recorders)?;
     Ok(metered)
 }
 

@@ -7,7 +7,8 @@ use std::fmt;
 use thiserror::Error;
 
 /// The table that has a fault. Meters, instruments and recorders are numbered from 0 in the order of the file,
-/// instruments through all meters; keys from 0 in their instrument, and budgets in their recorder.
+/// instruments through all meters, of each its own before those of its groups; keys from 0 in their instrument, and
+/// budgets in their recorder.
 #[derive(Clone, Copy, Debug, PartialEq, Eq, Drop)]
 pub enum CataloguePlace {
     /// The top table.
@@ -47,6 +48,8 @@ pub enum CatalogueField {
     SchemaUrl,
     /// `instrument` of a meter, or of a budget.
     Instrument,
+    /// `group` of a meter; an entry of it is a group, with its own `instrument` and what it has that is unknown.
+    Group,
     /// `kind` of an instrument.
     Kind,
     /// `unit` of an instrument.
@@ -61,7 +64,7 @@ pub enum CatalogueField {
     Key,
     /// `allowed` of an instrument.
     Allowed,
-    /// `spare` of an instrument.
+    /// `spare` of an instrument in format 2.
     Spare,
     /// `values` of a key.
     Values,
@@ -71,7 +74,7 @@ pub enum CatalogueField {
     Optional,
     /// `count` of a recorder.
     Count,
-    /// `budget` of a recorder.
+    /// `budget` of a recorder, in format 3 also of an instrument.
     Budget,
     /// `amount` of a budget.
     Amount,
@@ -148,8 +151,8 @@ pub enum CatalogueDefect {
     DuplicateValue,
     /// A key has the name of the attribute that marks the overflow point.
     ReservedKey,
-    /// A range is empty, a counter's or histogram's range has negative values, an amount is negative, or a count is not
-    /// from 1 to 64.
+    /// A range is empty, also one among values, a counter's or histogram's has negative values, an amount is negative,
+    /// or a count is not from 1 to 64.
     BadRange,
     /// Boundaries do not rise strictly.
     BadBoundaries,

@@ -1,5 +1,8 @@
 //! A catalogue as the text of a file, in full: each key where it is used, each recorder by itself, each budget by the
 //! number of its instrument.
+ghost use Rattle.std.specs.Prelude.{◌≡◌, ◌≤◌, ◌^◌, length, sum_by};
+ghost use Rattle.metric_catalogue.specs.InFull.{fits_in_full, instrument_weight, key_weight, value_weight};
+
 use metric_combinations::Combinations;
 use metric_contents::{Contents, Instrument, Key, Kind, Meter, Recorder};
 use metric_names::AttrValue;
@@ -8,30 +11,73 @@ use std::alloc::{AllocError, Global};
 use toml::{Table, Value};
 
 // What the values of all keys may come to, in bytes.
-const MOST_WEIGHT: u64 = 8_388_608;
+const MOST_WEIGHT: u128 = 8_388_608;
 
 // Whether the values of all keys, each time that an instrument has one, come to no more than fits.
-pub(crate) fn fits(contents: &Contents) -> bool {
-    let mut weight = 0u64;
-    for instrument in contents.instruments.as_slice() {
-        for key in instrument.keys.as_slice() {
-            weight = weight.saturating_add(weight_of(key));
-        }
-    }
-    weight <= MOST_WEIGHT
+pub(crate) fn fits(contents: &Contents) -> bool
+    ensures { result ≡ fits_in_full contents.now }
+{
+    full_weight(contents.instruments.as_slice()) <= MOST_WEIGHT
 }
 
-// What the values of a key count for: a text its bytes, each value a little more.
-fn weight_of(key: &Key) -> u64 {
-    let mut weight = 0u64;
-    for value in key.values.as_slice() {
-        let bytes = match value {
-            AttrValue::Text(text) => text.as_str().len() as u64,
-            _ => 0,
-        };
-        weight = weight.saturating_add(bytes).saturating_add(16);
+fn full_weight(instruments: &[Instrument]) -> u128
+    requires { length instruments.now ≤ 512 }
+    ensures { result ≡ sum_by instrument_weight instruments.now }
+{
+    let mut weight = 0u128;
+    for instrument in instruments {
+        weight += instrument_weight(instrument);
     }
     weight
+}
+
+fn instrument_weight(instrument: &Instrument) -> u128
+    ensures exact { result ≡ instrument_weight instrument.now }
+    ensures few { result ≤ 2 ^ 78 }
+{
+    keys_weight(instrument.keys.as_slice())
+}
+
+fn keys_weight(keys: &[Key]) -> u128
+    requires { length keys.now ≤ 8 }
+    ensures exact { result ≡ sum_by key_weight keys.now }
+    ensures few { result ≤ 2 ^ 78 }
+{
+    let mut weight = 0u128;
+    for key in keys {
+        weight += key_weight(key);
+    }
+    weight
+}
+
+fn key_weight(key: &Key) -> u128
+    ensures exact { result ≡ key_weight key.now }
+    ensures few { result ≤ 2 ^ 75 }
+{
+    values_weight(key.values.as_slice())
+}
+
+fn values_weight(values: &[AttrValue]) -> u128
+    requires { length values.now ≤ 1000 }
+    ensures exact { result ≡ sum_by value_weight values.now }
+    ensures few { result ≤ 2 ^ 75 }
+{
+    let mut weight = 0u128;
+    for value in values {
+        weight += value_weight(value);
+    }
+    weight
+}
+
+// What a value counts for: a text its bytes, each value a little more.
+fn value_weight(value: &AttrValue) -> u128
+    ensures exact { result ≡ value_weight value.now }
+    ensures few { result ≤ 2 ^ 65 }
+{
+    match value {
+        AttrValue::Text(text) => text.as_str().len() as u128 + 16,
+        _ => 16,
+    }
 }
 
 // The text of what a catalogue declares.

@@ -1,21 +1,22 @@
 //! The instruments of a meter.
-ghost use Rattle.std.specs.Prelude.{◌≡◌, ◌≤◌, ◌<◌, ◌+◌, [], codes, length, map};
+ghost use Rattle.std.specs.Prelude.{◌≡◌, ◌≤◌, ◌<◌, ◌+◌, length, map, IfOk};
 ghost use Rattle.std.specs.List.{list_any};
 ghost use Rattle.toml.specs.View.{table_view, view};
 ghost use Rattle.metric_base.specs.Steps.{Gives, Advances, each};
-ghost use Rattle.metric_catalogue.specs.Faults.{field_at};
-ghost use Rattle.metric_catalogue.specs.Texts.{free_text};
-ghost use Rattle.metric_catalogue.specs.Instruments.{advice_field, boundaries_of, head_of, instrument_name, instrument_of, is_instrument, is_range, kind_field, only_instrument_fields, pair_field, pair_of, range_field, limits_field, spare_field, unit_field};
+ghost use Rattle.metric_catalogue.specs.Instruments.{advice_field, boundaries_of, description_field, head_of, instrument_name, instrument_of, is_instrument, is_range, keys_for, kind_field, only_instrument_fields, pair_field, pair_of, range_field, limits_field, spare_field, spare_name, spare_spot, unit_field};
 
 use crate::allowed::{allowed_field, allowed_of};
 use crate::fault::{
     CatalogueDefect, CatalogueFault, CatalogueField, CataloguePlace, CatalogueSpot,
 };
+use crate::holding::holder;
 use crate::known::instrument_names;
+use crate::named::has_field;
 use crate::recorders::amount_from;
 use crate::shared_keys::{SharedKey, entries_field, keys_of};
 use crate::texts::{faults_at, free_text, pair_faults_at, unknown_at};
-use metric_base::{Boundaries, Few, Items, Shared, Text, is_rising};
+use crate::unsaid::unsaid;
+use metric_base::{Boundaries, Few, Items, Shared, Text, copy_all, is_rising};
 use metric_combinations::Combinations;
 use metric_contents::{Instrument, Key, Kind};
 use metric_names::{Name, NameFault, Unit, UnitFault};
@@ -25,7 +26,7 @@ use metric_table::{
 use std::alloc::Global;
 use toml::{Table, Value};
 
-// The fields of an instrument's table, of which format 1 has all but the last two.
+// The fields of an instrument's table in formats 1 and 2, of which format 1 has all but the last two.
 pub(crate) const INSTRUMENT_FIELDS: [&str; 9] = [
     "name",
     "kind",
@@ -36,6 +37,19 @@ pub(crate) const INSTRUMENT_FIELDS: [&str; 9] = [
     "key",
     "allowed",
     "spare",
+];
+
+// Those of format 3.
+pub(crate) const SHARED_INSTRUMENT_FIELDS: [&str; 9] = [
+    "name",
+    "kind",
+    "unit",
+    "description",
+    "range",
+    "boundaries",
+    "key",
+    "allowed",
+    "budget",
 ];
 
 // What names and describes an instrument.
@@ -116,29 +130,39 @@ impl Head {
     }
 }
 
-// Puts the instruments of a meter after those of the meters before it. Where there is a fault, some
-// of them may have been put.
+// Puts instruments of the meter of a number and a name after those before, with the fields and the keys of their group
+// where they have none themselves. Where there is a fault, some of them may have been put.
 pub(crate) fn add_instruments(
     alloc: Global,
     tables: &[&Table],
+    group: &Table,
+    common: &[Key],
     format: u8,
     shared: &[SharedKey],
+    recorders: &[&Table],
     meter: u32,
+    name: &str,
     instruments: &mut Items<Instrument>,
 ) -> Result<(), CatalogueFault>
-    requires { length instruments.old + length tables.now ≤ 512 }
+    requires instruments { length instruments.old + length tables.now ≤ 512 }
+    requires common { length common.now ≤ 8 }
     ensures exact { Advances CatalogueFault.Memory result instruments.new
-        (each (instrument_of format shared.now meter) instruments.old
-        (map (λ t. table_view t.now) tables.now)) }
+        (each (instrument_of format shared.now (map (λ t. table_view t.now) recorders.now)
+        meter name.now (table_view group.now) common.now)
+        instruments.old (map (λ t. table_view t.now) tables.now)) }
     ensures few { length instruments.new ≤ length instruments.old + length tables.now }
 {
     for table in tables {
         let instrument = instrument_of(
             alloc,
             table,
+            group,
+            common,
             format,
             shared,
+            recorders,
             meter,
+            name,
             instruments.as_slice(),
         )?;
         instruments.push(instrument)?;
@@ -149,22 +173,33 @@ pub(crate) fn add_instruments(
 fn instrument_of(
     alloc: Global,
     table: &Table,
+    group: &Table,
+    common: &[Key],
     format: u8,
     shared: &[SharedKey],
+    recorders: &[&Table],
     meter: u32,
+    meter_name: &str,
     before: &[Instrument],
 ) -> Result<Instrument, CatalogueFault>
-    requires { length before.now < 512 }
+    requires before { length before.now < 512 }
+    requires common { length common.now ≤ 8 }
     ensures { Gives CatalogueFault.Memory result
-        (instrument_of format shared.now meter before.now (table_view table.now)) }
+        (instrument_of format shared.now (map (λ t. table_view t.now) recorders.now)
+        meter meter_name.now (table_view group.now) common.now
+        before.now (table_view table.now)) }
 {
     let at = CataloguePlace::Instrument(before.len() as u32);
-    let head = head_of(alloc, table, format, at)?;
-    let range = range_field(table, head.kind, at)?;
-    let advice = advice_field(alloc, table, at)?;
-    let is_taken = has_instrument(before, meter, head.name.get());
+    let head = head_of(alloc, table, group, format, at)?;
+    let range = range_field(table, group, head.kind, at)?;
+    let advice = advice_field(alloc, table, group, at)?;
+    let name = head.name.get();
+    let is_taken = has_instrument(before, meter, name);
+    let otherwise = unsaid(alloc, format, recorders, meter_name, name, head.kind, range)?;
     let number = before.len() as u32;
-    let limits = limits_field(alloc, table, format, shared, number, is_taken)?;
+    let limits = limits_field(
+        alloc, table, group, common, format, shared, number, is_taken, otherwise,
+    )?;
     Ok(head.instrument(meter, range, advice, limits))
 }
 
@@ -174,23 +209,27 @@ fn instrument_of(
 fn limits_field(
     alloc: Global,
     table: &Table,
+    group: &Table,
+    common: &[Key],
     format: u8,
     shared: &[SharedKey],
     number: u32,
     is_taken: bool,
+    otherwise: u64,
 ) -> Result<Limits, CatalogueFault>
-    ensures { Gives CatalogueFault.Memory result
-        (limits_field format shared.now number is_taken (table_view table.now)) }
+    requires { length common.now ≤ 8 }
+    ensures { Gives CatalogueFault.Memory result (limits_field format shared.now number is_taken
+        otherwise (table_view group.now) common.now (table_view table.now)) }
 {
     let at = CataloguePlace::Instrument(number);
     let entries = entries_field(table, format, at.field(CatalogueField::Key))?;
-    let rows = allowed_field(table, at.field(CatalogueField::Allowed))?;
-    let spare = spare_field(table, at.field(CatalogueField::Spare))?;
+    let rows = allowed_field(table, group, at.field(CatalogueField::Allowed))?;
+    let spare = spare_field(table, group, format, otherwise, at)?;
     if is_taken {
         let name = at.field(CatalogueField::Name);
         return Err(CatalogueFault::At(CatalogueDefect::DuplicateInstrument, name));
     }
-    let keys = keys_of(alloc, entries, shared, number)?;
+    let keys = keys_for(alloc, table, entries, common, format, shared, number)?;
     let allowed = allowed_of(
         alloc,
         rows,
@@ -204,17 +243,66 @@ fn limits_field(
     })
 }
 
-// The spare budget of an instrument, 0 where the table leaves it out.
-#[tactic(auto, unfolding(crate::specs::Instruments::spare_field))]
-fn spare_field(table: &Table, at: CatalogueSpot) -> Result<u64, CatalogueFault>
-    ensures { result ≡ spare_field at (table_view table.now) }
+// The keys of an instrument: those of its table's entries, or where it has none, those that it takes from its group.
+fn keys_for(
+    alloc: Global,
+    table: &Table,
+    entries: &[Value],
+    common: &[Key],
+    format: u8,
+    shared: &[SharedKey],
+    number: u32,
+) -> Result<Items<Key>, CatalogueFault>
+    requires entries { length entries.now ≤ 8 }
+    requires common { length common.now ≤ 8 }
+    ensures exact { Gives CatalogueFault.Memory result (keys_for format shared.now number common.now
+        (table_view table.now) (map view entries.now)) }
+    ensures few { IfOk result (λ keys. length keys ≤ 8) }
 {
-    match member(table, "spare") {
+    if has_field(table, "key") {
+        keys_of(alloc, entries, format, shared, number)
+    } else {
+        Ok(copy_all(alloc, common)?)
+    }
+}
+
+// The spare budget of an instrument, another number where the table leaves it out.
+#[tactic(auto, unfolding(crate::specs::Instruments::spare_field))]
+fn spare_field(
+    table: &Table,
+    group: &Table,
+    format: u8,
+    otherwise: u64,
+    at: CataloguePlace,
+) -> Result<u64, CatalogueFault>
+    ensures { result ≡ spare_field format otherwise at
+        (table_view group.now) (table_view table.now) }
+{
+    let at = spare_spot(format, at);
+    let name = spare_name(format);
+    match member(holder(name, group, table), name) {
         Some(value) => {
             let number = integer_of(value, &faults_at(at))?;
             amount_from(number).ok_or(CatalogueFault::At(CatalogueDefect::BadRange, at))
         }
-        None => Ok(0),
+        None => Ok(otherwise),
+    }
+}
+
+// The name of the field of a spare budget.
+fn spare_name(format: u8) -> &'static str
+    ensures { result.now ≡ spare_name format }
+{
+    if format == 3 { "budget" } else { "spare" }
+}
+
+fn spare_spot(format: u8, at: CataloguePlace) -> CatalogueSpot
+    ensures { result ≡ spare_spot format at }
+{
+    if format == 3 {
+        at.field(CatalogueField::Budget)
+    } else {
+        at.field(CatalogueField::Spare)
     }
 }
 
@@ -236,15 +324,17 @@ fn is_instrument(instrument: &Instrument, meter: u32, name: &Name) -> bool
 fn head_of(
     alloc: Global,
     table: &Table,
+    group: &Table,
     format: u8,
     at: CataloguePlace,
 ) -> Result<Head, CatalogueFault>
-    ensures { Gives CatalogueFault.Memory result (head_of format at (table_view table.now)) }
+    ensures { Gives CatalogueFault.Memory result
+        (head_of format at (table_view group.now) (table_view table.now)) }
 {
     let name = instrument_name(alloc, table, format, at)?;
-    let kind = kind_field(table, at)?;
-    let unit = unit_field(alloc, table, at)?;
-    let description = description_field(alloc, table, at)?;
+    let kind = kind_field(table, group, at)?;
+    let unit = unit_field(alloc, table, group, at)?;
+    let description = description_field(alloc, table, group, at)?;
     Ok(Head {
         name,
         kind,
@@ -285,11 +375,12 @@ fn instrument_name(
 }
 
 #[tactic(auto, unfolding(crate::specs::Instruments::kind_field))]
-fn kind_field(table: &Table, at: CataloguePlace) -> Result<Kind, CatalogueFault>
-    ensures { result ≡ kind_field at (table_view table.now) }
+fn kind_field(table: &Table, group: &Table, at: CataloguePlace) -> Result<Kind, CatalogueFault>
+    ensures { result
+        ≡ kind_field at (table_view group.now) (table_view table.now) }
 {
     let at = at.field(CatalogueField::Kind);
-    let text = text_field(table, "kind", &faults_at(at))?;
+    let text = text_field(holder("kind", group, table), "kind", &faults_at(at))?;
     Kind::named(text).ok_or(CatalogueFault::At(CatalogueDefect::WrongKind, at))
 }
 
@@ -297,12 +388,14 @@ fn kind_field(table: &Table, at: CataloguePlace) -> Result<Kind, CatalogueFault>
 fn unit_field(
     alloc: Global,
     table: &Table,
+    group: &Table,
     at: CataloguePlace,
 ) -> Result<Shared<Unit>, CatalogueFault>
-    ensures { Gives CatalogueFault.Memory result (unit_field at (table_view table.now)) }
+    ensures { Gives CatalogueFault.Memory result
+        (unit_field at (table_view group.now) (table_view table.now)) }
 {
     let at = at.field(CatalogueField::Unit);
-    let text = optional_text(table, "unit", &faults_at(at))?;
+    let text = optional_text(holder("unit", group, table), "unit", &faults_at(at))?;
     match Unit::parse(alloc, text.unwrap_or("")) {
         Ok(unit) => Ok(Shared::new(alloc, unit)?),
         Err(UnitFault::Memory) => Err(CatalogueFault::Memory),
@@ -313,15 +406,15 @@ fn unit_field(
 fn description_field(
     alloc: Global,
     table: &Table,
+    group: &Table,
     at: CataloguePlace,
 ) -> Result<Shared<Text>, CatalogueFault>
     ensures { Gives CatalogueFault.Memory result
-        (free_text (field_at at CatalogueField.Description) (codes "description")
-        (table_view table.now)) }
+        (description_field at (table_view group.now) (table_view table.now)) }
 {
     let description = free_text(
         alloc,
-        table,
+        holder("description", group, table),
         "description",
         at.field(CatalogueField::Description),
     )?;
@@ -329,11 +422,17 @@ fn description_field(
 }
 
 #[tactic(auto, unfolding(crate::specs::Instruments::range_field))]
-fn range_field(table: &Table, kind: Kind, at: CataloguePlace) -> Result<(i64, i64), CatalogueFault>
-    ensures { result ≡ range_field at kind (table_view table.now) }
+fn range_field(
+    table: &Table,
+    group: &Table,
+    kind: Kind,
+    at: CataloguePlace,
+) -> Result<(i64, i64), CatalogueFault>
+    ensures { result
+        ≡ range_field at kind (table_view group.now) (table_view table.now) }
 {
     let at = at.field(CatalogueField::Range);
-    let (lo, hi) = pair_field(table, at)?;
+    let (lo, hi) = pair_field(holder("range", group, table), at)?;
     if !is_range(kind, lo, hi) {
         return Err(CatalogueFault::At(CatalogueDefect::BadRange, at));
     }
@@ -373,11 +472,13 @@ fn is_range(kind: Kind, lo: i64, hi: i64) -> bool
 fn advice_field(
     alloc: Global,
     table: &Table,
+    group: &Table,
     at: CataloguePlace,
 ) -> Result<Option<Shared<Boundaries>>, CatalogueFault>
-    ensures { Gives CatalogueFault.Memory result (advice_field at (table_view table.now)) }
+    ensures { Gives CatalogueFault.Memory result
+        (advice_field at (table_view group.now) (table_view table.now)) }
 {
-    match member(table, "boundaries") {
+    match member(holder("boundaries", group, table), "boundaries") {
         Some(value) => {
             let boundaries = boundaries_of(alloc, value, at.field(CatalogueField::Boundaries))?;
             Ok(Some(boundaries))

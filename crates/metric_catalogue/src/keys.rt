@@ -1,23 +1,24 @@
 //! The keys of an instrument.
-ghost use Rattle.std.specs.Prelude.{◌≡◌, ◌≤◌, ◌<◌, ◌==◌, [], ◌∷◌, ◌++◌, length, map, IfOk, OnOk};
+ghost use Rattle.std.specs.Prelude.{◌≡◌, ◌<◌, ◌∷◌, ◌++◌, length, IfOk, OnOk};
 ghost use Rattle.std.specs.List.{list_any};
 ghost use Rattle.std.specs.Option.{option_map};
-ghost use Rattle.toml.specs.View.{table_view, view};
-ghost use Rattle.metric_base.specs.Steps.{Gives, each};
+ghost use Rattle.toml.specs.View.{table_view};
+ghost use Rattle.metric_base.specs.Steps.{Gives};
 ghost use Rattle.metric_table.specs.Fields.{now_of};
-ghost use Rattle.metric_catalogue.specs.Keys.{key_name, key_named, key_of, next_value, only_key_fields, optional_field, some_values, value_at, values_field, values_with};
+ghost use Rattle.metric_catalogue.specs.Keys.{key_name, key_named, key_of, only_key_fields, optional_field, values_with};
 ghost use Rattle.metric_contents.specs.KeyNames.{is_key};
 
 use crate::fault::{
     CatalogueDefect, CatalogueFault, CatalogueField, CataloguePlace, CatalogueSpot,
 };
 use crate::texts::{copy_short, faults_at, label_of, unknown_at};
+use crate::values::values_field;
 use metric_base::{Copied, Items, Text};
 use metric_contents::{Key, Values};
 use metric_names::AttrValue;
-use metric_table::{flag_or, list_of, only, optional_text, required, text_field};
+use metric_table::{flag_or, only, optional_text, text_field};
 use std::alloc::{AllocError, Global};
-use toml::{Table, Value};
+use toml::Table;
 
 // The fields of a key's table.
 pub(crate) const KEY_FIELDS: [&str; 3] = ["name", "values", "optional"];
@@ -26,18 +27,19 @@ pub(crate) const KEY_FIELDS: [&str; 3] = ["name", "values", "optional"];
 pub(crate) fn key_of(
     alloc: Global,
     table: &Table,
+    format: u8,
     instrument: u32,
     before: &[Key],
 ) -> Result<Key, CatalogueFault>
     requires { length before.now < 8 }
     ensures { Gives CatalogueFault.Memory result
-        (key_of instrument before.now (table_view table.now)) }
+        (key_of format instrument before.now (table_view table.now)) }
 {
     let at = CataloguePlace::Key(instrument, before.len() as u32);
     only_key_fields(table, at)?;
     let name_at = at.field(CatalogueField::Name);
     let text = text_field(table, "name", &faults_at(name_at))?;
-    let key = key_named(alloc, table, text, at)?;
+    let key = key_named(alloc, table, format, text, at)?;
     if has_key(before, &key.name) {
         return Err(CatalogueFault::At(CatalogueDefect::DuplicateKey, name_at));
     }
@@ -49,13 +51,15 @@ pub(crate) fn key_of(
 pub(crate) fn key_named(
     alloc: Global,
     table: &Table,
+    format: u8,
     text: &str,
     at: CataloguePlace,
 ) -> Result<Key, CatalogueFault>
-    ensures { Gives CatalogueFault.Memory result (key_named at text.now (table_view table.now)) }
+    ensures { Gives CatalogueFault.Memory result
+        (key_named format at text.now (table_view table.now)) }
 {
     let name = key_name(alloc, text, at)?;
-    let values = values_field(alloc, table, at.field(CatalogueField::Values))?;
+    let values = values_field(alloc, table, format, at.field(CatalogueField::Values))?;
     let other_at = at.field(CatalogueField::Other);
     let other = optional_text(table, "other", &faults_at(other_at))?;
     let values = values_with(alloc, values, other, other_at)?;
@@ -147,78 +151,4 @@ fn push_copies(
         all.push(value.copy(alloc)?)?;
     }
     Ok(())
-}
-
-// The values of a key, of which none stands twice.
-#[tactic(auto, unfolding(crate::specs::Keys::values_field))]
-fn values_field(alloc: Global, table: &Table, at: CatalogueSpot) -> Result<Values, CatalogueFault>
-    ensures { Gives CatalogueFault.Memory result (values_field at (table_view table.now)) }
-{
-    let values = some_values(alloc, table, at)?;
-    let distinct = Values::from_items(alloc, values)?;
-    distinct.ok_or(CatalogueFault::At(CatalogueDefect::DuplicateValue, at))
-}
-
-#[tactic(auto, unfolding(crate::specs::Keys::some_values))]
-fn some_values(
-    alloc: Global,
-    table: &Table,
-    at: CatalogueSpot,
-) -> Result<Items<AttrValue>, CatalogueFault>
-    ensures exact { Gives CatalogueFault.Memory result (some_values at (table_view table.now)) }
-    ensures few { IfOk result (λ values. length values ≤ 1000) }
-{
-    let faults = faults_at(at);
-    let value = required(table, "values", &faults)?;
-    let values = list_of(value, 1000, &faults)?;
-    if values.is_empty() {
-        return Err(CatalogueFault::At(CatalogueDefect::MissingField, at));
-    }
-    values_at(alloc, values, at)
-}
-
-fn values_at(
-    alloc: Global,
-    values: &[Value],
-    at: CatalogueSpot,
-) -> Result<Items<AttrValue>, CatalogueFault>
-    requires { length values.now ≤ 1000 }
-    ensures exact { Gives CatalogueFault.Memory result
-        (each (next_value at) [] (map view values.now)) }
-    ensures few { IfOk result (λ read. length read ≤ length values.now) }
-{
-    let mut read = Items::new(alloc);
-    for value in values {
-        let value = next_value(alloc, value, at, read.as_slice())?;
-        read.push(value)?;
-    }
-    Ok(read)
-}
-
-// One more value, after those before it.
-fn next_value(
-    alloc: Global,
-    value: &Value,
-    at: CatalogueSpot,
-    before: &[AttrValue],
-) -> Result<AttrValue, CatalogueFault>
-    requires { length before.now < 1000 }
-    ensures { Gives CatalogueFault.Memory result (next_value at before.now (view value.now)) }
-{
-    value_at(alloc, value, at.entry(before.len() as u32))
-}
-
-// The attribute value that a value is.
-fn value_at(alloc: Global, value: &Value, at: CatalogueSpot) -> Result<AttrValue, CatalogueFault>
-    ensures { Gives CatalogueFault.Memory result (value_at at (view value.now)) }
-{
-    match value {
-        Value::String(text) => {
-            let text = copy_short(alloc, text.as_str(), at)?;
-            Ok(AttrValue::Text(text))
-        }
-        Value::Integer(number) => Ok(AttrValue::Whole(*number)),
-        Value::Boolean(flag) => Ok(AttrValue::Flag(*flag)),
-        _ => Err(CatalogueFault::At(CatalogueDefect::WrongKind, at)),
-    }
 }

@@ -57,7 +57,7 @@ fn named_in(alloc: Global, meters: &[Meter], instrument: &Instrument) -> Result<
 }
 
 // The name of an instrument after that of its meter.
-fn path_of(alloc: Global, meter: &str, name: &str) -> Result<Text, AllocError>
+pub(crate) fn path_of(alloc: Global, meter: &str, name: &str) -> Result<Text, AllocError>
     ensures { IfOk result (λ path. path ≡ meter.now ++ (codes "/" ++ name.now)) }
 {
     let mut path = String::from_str(alloc, meter)?;
@@ -272,7 +272,7 @@ fn is_repeated(budget: &Table, one: &Named) -> bool
     has_field(budget, one.name.as_str()) && has_field(budget, one.path.as_str())
 }
 
-fn has_field(table: &Table, name: &str) -> bool
+pub(crate) fn has_field(table: &Table, name: &str) -> bool
     ensures { result ≡ is_some (get_member name.now (table_view table.now)) }
 {
     member(table, name).is_some()

@@ -161,9 +161,13 @@ fn budgeted(table: &Table, count: u32, at: CatalogueSpot) -> Result<u32, Catalog
     number_below(count, number).ok_or(CatalogueFault::At(CatalogueDefect::UnknownInstrument, at))
 }
 
-// A whole number that a budget needs.
+// A whole number that a budget or a range needs.
 #[tactic(auto, unfolding(crate::specs::Recorders::number_field))]
-fn number_field(table: &Table, name: &str, at: CatalogueSpot) -> Result<i64, CatalogueFault>
+pub(crate) fn number_field(
+    table: &Table,
+    name: &str,
+    at: CatalogueSpot,
+) -> Result<i64, CatalogueFault>
     ensures { result ≡ number_field at name.now (table_view table.now) }
 {
     let faults = faults_at(at);

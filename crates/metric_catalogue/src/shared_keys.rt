@@ -63,7 +63,7 @@ fn shared_key(
     }
     let name_at = at.field(CatalogueField::Name);
     let text = optional_text(table, "name", &faults_at(name_at))?;
-    let key = key_named(alloc, table, text.unwrap_or(id.as_str()), at)?;
+    let key = key_named(alloc, table, 3, text.unwrap_or(id.as_str()), at)?;
     Ok(SharedKey { id, key })
 }
 
@@ -144,17 +144,18 @@ fn is_table(value: &Value) -> bool
 pub(crate) fn keys_of(
     alloc: Global,
     entries: &[Value],
+    format: u8,
     shared: &[SharedKey],
     instrument: u32,
 ) -> Result<Items<Key>, CatalogueFault>
     requires { length entries.now ≤ 8 }
     ensures exact { Gives CatalogueFault.Memory result
-        (each (key_entry shared.now instrument) [] (map view entries.now)) }
+        (each (key_entry format shared.now instrument) [] (map view entries.now)) }
     ensures few { IfOk result (λ keys. length keys ≤ length entries.now) }
 {
     let mut keys = Items::new(alloc);
     for entry in entries {
-        let key = key_entry(alloc, entry, shared, instrument, keys.as_slice())?;
+        let key = key_entry(alloc, entry, format, shared, instrument, keys.as_slice())?;
         keys.push(key)?;
     }
     Ok(keys)
@@ -164,17 +165,18 @@ pub(crate) fn keys_of(
 fn key_entry(
     alloc: Global,
     entry: &Value,
+    format: u8,
     shared: &[SharedKey],
     instrument: u32,
     before: &[Key],
 ) -> Result<Key, CatalogueFault>
     requires { length before.now < 8 }
     ensures { Gives CatalogueFault.Memory result
-        (key_entry shared.now instrument before.now (view entry.now)) }
+        (key_entry format shared.now instrument before.now (view entry.now)) }
 {
     let at = entry_place(instrument, before);
     match entry {
-        Value::Table(table) => key_of(alloc, table, instrument, before),
+        Value::Table(table) => key_of(alloc, table, format, instrument, before),
         Value::String(id) => key_by_id(alloc, id.as_str(), shared, before, at),
         _ => Err(CatalogueFault::At(CatalogueDefect::WrongKind, at)),
     }

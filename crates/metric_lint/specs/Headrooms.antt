@@ -1,5 +1,5 @@
 -- How often an instrument may be recorded before it is no longer safe.
-use Rattle.std.specs.Prelude.{◌≡◌, ◌==◌, ℕ, ℤ, pos, negsuc, suc, ◌≤◌, ◌+◌, nat_lt, if◌then◌else◌}
+use Rattle.std.specs.Prelude.{◌≡◌, ◌==◌, ℕ, ◌≤◌, ◌+◌, nat_lt, if◌then◌else◌}
 use Rattle.std.specs.Prelude.{List, Option, Some, None}
 use Rattle.metric_contents.specs.declared.contents.Contents.{Contents}
 use Rattle.metric_views.specs.declared.stream.Stream.{Stream}
@@ -27,15 +27,6 @@ pub record IsOwnHeadroom (contents : Contents) (streams : List Stream) (instrume
     (headroom : Headroom) : Type 0 where
   pub total : headroom.total ≡ total_of contents instrument
   pub edge : IsEdge (OwnFindsAt contents streams instrument) headroom.most headroom.limit
-
--- how far a number is below zero, and above it
-abbrev pub below : ℤ → ℕ
-below (pos n) = 0
-below (negsuc n) = suc n
-
-abbrev pub above : ℤ → ℕ
-above (pos n) = n
-above (negsuc n) = 0
 
 -- a headroom that is not above a number, which the limit gives, where there is one
 abbrev pub tightened : Headroom → Option ℕ → Limit → Headroom

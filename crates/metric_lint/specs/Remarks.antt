@@ -147,10 +147,22 @@ recorder_remark recorder = when (is_idle recorder.1) (remarks.NoBudget recorder.
 abbrev pub recorder_remarks : List Recorder → List Remark
 recorder_remarks recorders = flat_map recorder_remark (enumerate_from 0 recorders)
 
--- each recorder without a budget, and that there is no recorder
-abbrev pub all_recorder_remarks : List Recorder → List Remark
-all_recorder_remarks recorders =
-    recorder_remarks recorders ++ when (length recorders == 0) remarks.NoRecorder
+-- there are instruments, and each has something to spare, which any recorder may take
+abbrev pub are_shared : List Instrument → Bool
+are_shared instruments =
+    not (length instruments == 0)
+    && list_all (λ instrument. not (instrument.spare == 0)) instruments
+
+abbrev pub idle_remarks : List Instrument → List Recorder → List Remark
+idle_remarks instruments recorders =
+    if are_shared instruments then [] else recorder_remarks recorders
+
+-- each recorder without a budget, unless each instrument has something to spare, and that there is
+-- no recorder
+abbrev pub all_recorder_remarks : Contents → List Remark
+all_recorder_remarks contents =
+    idle_remarks contents.instruments contents.recorders
+    ++ when (length contents.recorders == 0) remarks.NoRecorder
 
 -- # remark (profile) [remarks_of, AreRemarks]
 -- A view that does not fit, selects nothing or says nothing, two streams of one identity, a listed
@@ -166,7 +178,7 @@ remarks_of contents config rooms =
     (map (makes_histogram (streams_of contents config)) (all_views config))) (all_views config)
     ++ flat_map (instrument_remarks contents rooms) (all_instruments contents)
     ++ stream_remarks contents (streams_of contents config)
-    ++ all_recorder_remarks contents.recorders
+    ++ all_recorder_remarks contents
     ++ collected_remarks contents config (streams_of contents config)
 
 -- They are exactly the remarks that hold, in order.

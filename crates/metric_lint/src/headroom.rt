@@ -1,5 +1,5 @@
 //! How often each instrument may be recorded.
-ghost use Rattle.std.specs.Prelude.{◌≡◌, ◌≤◌, ◌<◌, ◌*◌, ◌==◌, ℕ, IfOk, IsTrue, OnOk, fold, if◌then◌else◌, length, map, ◌≤ℤ◌, slice_index_or};
+ghost use Rattle.std.specs.Prelude.{◌≡◌, ◌≤◌, ◌<◌, ◌==◌, ℕ, IfOk, IsTrue, OnOk, fold, if◌then◌else◌, length, map, ◌≤ℤ◌, slice_index_or};
 ghost use Rattle.std.specs.List.{AllZip, enumerate_from};
 ghost use Rattle.metric_resolve.specs.Applying.{all_instruments};
 ghost use Rattle.metric_resolve.specs.Resolved.{streams_of};
@@ -8,14 +8,14 @@ ghost use Rattle.metric_bounds.specs.Sets.{sets_of};
 ghost use Rattle.metric_bounds.specs.Safe.{AmountsFit, HighFits, LowFits};
 ghost use Rattle.metric_lint.specs.declared.headroom.Headroom.{Headroom as Room};
 ghost use Rattle.metric_lint.specs.Edges.{IsEdge, IsMost};
-ghost use Rattle.metric_lint.specs.Headrooms.{IsHeadroom, IsOwnHeadroom, above, below, most_by_series, tightened, tightened_at};
+ghost use Rattle.metric_lint.specs.Headrooms.{IsHeadroom, IsOwnHeadroom, most_by_series, tightened, tightened_at};
 ghost use Rattle.metric_lint.specs.Limits.{OwnFinds};
 
 use crate::limit::Limit;
 use metric_base::Items;
 use metric_bounds::{listed, product, summed, totals};
 use metric_catalogue::Catalogue;
-use metric_contents::Instrument;
+use metric_contents::{Instrument, above, below, most_within};
 use metric_resolve::resolve_streams;
 use metric_views::{Config, Stream};
 use std::alloc::{AllocError, Global};
@@ -158,27 +158,6 @@ fn most_by_high(instrument: &Instrument, is_summed: bool) -> Option<u64>
         return None;
     }
     most_within((1 << 63) - 1, above(instrument.hi))
-}
-
-// How far a number is below zero.
-fn below(number: i64) -> u64
-    ensures { result ≡ below number }
-{
-    if number < 0 { number.unsigned_abs() } else { 0 }
-}
-
-// How far a number is above zero.
-fn above(number: i64) -> u64
-    ensures { result ≡ above number }
-{
-    if number < 0 { 0 } else { number.unsigned_abs() }
-}
-
-// The greatest number of steps within a room, or none where each number of them is.
-fn most_within(room: u64, step: u64) -> Option<u64>
-    ensures { IsMost (λ count. count * step ≤ room) result }
-{
-    if step == 0 { None } else { Some(room / step) }
 }
 
 // Lowers the headrooms of the instruments to what the limits of their streams give.

@@ -3,7 +3,7 @@ ghost use Rattle.std.specs.Prelude.{◌≡◌, ◌==◌, ◌<◌, ◌≤◌, ◌
 ghost use Rattle.std.specs.List.{flat_map, list_all, list_any};
 ghost use Rattle.metric_contents.specs.Budgets.{amount_of};
 ghost use Rattle.metric_resolve.specs.Applying.{all_instruments, all_views};
-ghost use Rattle.metric_lint.specs.Remarks.{AreRemarks, all_recorder_remarks, instrument_remarks, is_idle, is_unrecorded, key_remarks, list_remarks, lists_remarks, recorder_remarks, remark_of, room_remarks};
+ghost use Rattle.metric_lint.specs.Remarks.{AreRemarks, all_recorder_remarks, are_shared, idle_remarks, instrument_remarks, is_idle, is_unrecorded, key_remarks, list_remarks, lists_remarks, recorder_remarks, remark_of, room_remarks};
 ghost use Rattle.metric_lint.specs.Remarks.{own_remarks, settings_remarks, view_remarks};
 ghost use Rattle.metric_lint.specs.Values.{stream_remarks};
 ghost use Rattle.metric_lint.specs.When.{when};
@@ -28,7 +28,8 @@ use std::alloc::{AllocError, Global};
 /// no selected instrument declares, boundaries without effect, whether it says nothing, and each key that it keeps and
 /// excludes; then of each instrument whether nobody can record on it, whether it allows nothing or one value alone,
 /// each value that no allowed combination has, and budgets and spare together above its headroom; then each stream of
-/// which one bucket takes all, or whose boundaries are far from its values; then of each recorder whether it has no budget, and that there is no recorder; then of
+/// which one bucket takes all, or whose boundaries are far from its values; then of each recorder whether it has no
+/// budget, unless each instrument has something to spare, and that there is no recorder; then of
 /// each reader whether it has no stream, and delta streams of up-down counters and of gauges, and that there is no
 /// reader. Fails only when out of memory.
 pub fn lint(
@@ -51,7 +52,7 @@ pub fn lint(
     )?;
     add_instruments(alloc, &mut remarks, catalogue, rooms.as_slice())?;
     add_streams(&mut remarks, catalogue, streams.list())?;
-    add_recorders(&mut remarks, catalogue.recorders())?;
+    add_recorders(&mut remarks, catalogue)?;
     add_collected(&mut remarks, catalogue, config, streams.list())?;
     Ok(remarks)
 }
@@ -311,12 +312,41 @@ fn add_room(remarks: &mut Items<Remark>, room: &Headroom, instrument: u32) -> Re
 }
 
 // Puts the remarks on recorders last: each that has no budget, and that there is none.
-fn add_recorders(remarks: &mut Items<Remark>, recorders: &[Recorder]) -> Result<(), AllocError>
-    requires { length recorders.now ≤ 64 }
-    ensures { OnOk result (remarks.new ≡ remarks.old ++ all_recorder_remarks recorders.now) }
+fn add_recorders(remarks: &mut Items<Remark>, catalogue: &Catalogue) -> Result<(), AllocError>
+    ensures { OnOk result (remarks.new ≡ remarks.old ++ all_recorder_remarks catalogue.now) }
 {
-    add_idle(remarks, recorders)?;
+    let recorders = catalogue.recorders();
+    add_idle_beside(remarks, catalogue.instruments(), recorders)?;
     add_when(remarks, recorders.is_empty(), Remark::NoRecorder)
+}
+
+// Puts a remark last for each recorder that has no budget, unless each instrument has something to spare.
+fn add_idle_beside(
+    remarks: &mut Items<Remark>,
+    instruments: &[Instrument],
+    recorders: &[Recorder],
+) -> Result<(), AllocError>
+    requires { length recorders.now ≤ 64 }
+    ensures { OnOk result (remarks.new ≡ remarks.old
+        ++ idle_remarks instruments.now recorders.now) }
+{
+    if are_shared(instruments) {
+        Ok(())
+    } else {
+        add_idle(remarks, recorders)
+    }
+}
+
+fn are_shared(instruments: &[Instrument]) -> bool
+    ensures { result ≡ are_shared instruments.now }
+{
+    !instruments.is_empty() && have_spares(instruments)
+}
+
+fn have_spares(instruments: &[Instrument]) -> bool
+    ensures { result ≡ list_all (λ instrument. not (instrument.spare == 0)) instruments.now }
+{
+    instruments.iter().all(|instrument| instrument.spare != 0)
 }
 
 // Puts a remark last for each recorder that has no budget.

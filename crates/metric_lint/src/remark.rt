@@ -99,7 +99,7 @@ pub enum Remark {
         /// What is not safe with one recording more than are safe.
         limit: Limit,
     },
-    /// The recorder has no budget, so it can record nothing without a grant.
+    /// The recorder has no budget, so it can record nothing without a grant, and an instrument has nothing to grant.
     NoBudget {
         /// The number of the recorder.
         recorder: u32,

@@ -1,3 +1,4 @@
 pub mod Finding
 pub mod Making
 pub mod Ordering
+pub mod Unsaid

@@ -5,6 +5,7 @@
 
 mod bounds;
 mod fault;
+pub mod laws;
 mod making;
 mod orders;
 mod reasons;

@@ -5,3 +5,4 @@ pub mod Near
 pub mod Places
 pub mod Standing
 pub mod Tables
+pub mod Bytes

@@ -71,10 +71,16 @@ pub record Marks (text : List ℕ) (passes : List ℕ → List ℕ → Bool) (po
 abbrev pub anywhere : List ℕ → List ℕ → Bool
 anywhere before rest = true
 
--- the name of a field, or behind it the entry of this number
-abbrev pub is_field : Option ℕ → List ℕ → List ℕ → List ℕ → Bool
-is_field None name before rest = has_word name rest
-is_field (Some entry) name before rest = is_listed name entry before
+-- the entry of this number of a field's list: behind its name, or of groups by its header
+abbrev pub entry_marks : CatalogueField → ℕ → List ℕ → List ℕ → Bool
+entry_marks catalogue_fields.Group entry before rest =
+    is_header (codes "[[meter.group]]") rest || is_listed (codes "group") entry before
+entry_marks field entry before rest = is_listed (catalogue_field field) entry before
+
+-- the name of a field, or the entry of this number
+abbrev pub field_marks : Option ℕ → CatalogueField → List ℕ → List ℕ → Bool
+field_marks None field before rest = has_word (catalogue_field field) rest
+field_marks (Some entry) field before rest = entry_marks field entry before rest
 
 -- the entry of a spot, where its field is a list: budgets by name are a table
 abbrev pub entry_of : CatalogueField → Option ℕ → Option ℕ
@@ -84,15 +90,25 @@ entry_of _ entry = entry
 abbrev pub entry_in : CatalogueSpot → Option ℕ
 entry_in spot = entry_of spot.field spot.entry
 
--- Of a field that is missing: its table, or the field itself where that is an empty list. Of one
--- that is not known: a name that is none of its table's. Of any other: the field, or its entry.
+-- Of a field that is missing: its table, or the field itself where that is an empty list.
+abbrev pub missing_marks : Option ℕ → CatalogueSpot → Bool → List ℕ → List ℕ → Bool
+missing_marks None spot plain before rest =
+    catalogue_table spot.place plain before rest || has_word (catalogue_field spot.field) rest
+missing_marks (Some entry) spot plain before rest = entry_marks spot.field entry before rest
+
+-- Of one that is not known: a name that is none of its table's.
+abbrev pub unknown_marks : Option ℕ → CatalogueSpot → List ℕ → List ℕ → Bool
+unknown_marks None spot before rest = is_other (catalogue_names 1 spot.place) before rest
+unknown_marks (Some entry) spot before rest = entry_marks spot.field entry before rest
+
+-- Of any other: the field, or its entry; of each of a table in a list of its own, that entry.
 abbrev pub marks_in_catalogue : CatalogueDefect → CatalogueSpot → Bool → List ℕ → List ℕ → Bool
 marks_in_catalogue catalogue.MissingField spot plain before rest =
-    catalogue_table spot.place plain before rest || has_word (catalogue_field spot.field) rest
+    missing_marks spot.entry spot plain before rest
 marks_in_catalogue catalogue.UnknownField spot plain before rest =
-    is_other (catalogue_names 1 spot.place) before rest
+    unknown_marks spot.entry spot before rest
 marks_in_catalogue _ spot plain before rest =
-    is_field (entry_in spot) (catalogue_field spot.field) before rest
+    field_marks (entry_in spot) spot.field before rest
 
 -- the same, and where the text is plain, in the table of its number
 abbrev pub catalogue_marks : CatalogueDefect → CatalogueSpot → List ℕ → List ℕ → List ℕ → Bool

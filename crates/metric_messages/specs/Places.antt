@@ -1,6 +1,7 @@
 -- Where a fault stands in its text.
 use Rattle.std.specs.Prelude.{◌≡◌, ℕ, ◌+◌, ◌-◌, List, [], ◌∷◌, Option, Some, None, slice_get}
-use Rattle.std.specs.Prelude.{codes, if◌then◌else◌, nat_lt, unwrap_or}
+use Rattle.std.specs.Prelude.{Bool, false, codes, if◌then◌else◌, is_some, nat_lt, unwrap_or}
+use Rattle.std.specs.List.{list_any}
 use Rattle.toml.specs.Data.{Data, integer, table as table_data, Members, get_member}
 use Rattle.toml.specs.Parse.{parse_document}
 use Rattle.metric_table.specs.Fields.{as_list, number_between}
@@ -54,10 +55,27 @@ abbrev pub written : List ℕ → CataloguePlace → CataloguePlace
 written text (Recorder number) = Recorder (table_within number (parse_document text))
 written text place = place
 
+-- a meter has groups
+abbrev pub has_group : Data → Bool
+has_group (table_data meter) = is_some (get_member (codes "group") meter)
+has_group _ = false
+
+abbrev pub has_groups : Option Members → Bool
+has_groups None = false
+has_groups (Some top) = list_any has_group (tables_in (get_member (codes "meter") top))
+
+-- headers do not tell an instrument of a number where meters have groups
+abbrev pub is_untold : List ℕ → CataloguePlace → Bool
+is_untold text (Instrument number) = has_groups (parse_document text)
+is_untold text place = false
+
+abbrev pub standing_table : List ℕ → CataloguePlace → Option Position
+standing_table text place =
+    if is_untold text place then None else located text (catalogue_place (written text place))
+
 -- where the table of a place stands in the texts of a catalogue and a config
 abbrev pub standing : List ℕ → List ℕ → Place → Option Position
-standing catalogue config (Catalogue place) =
-    located catalogue (catalogue_place (written catalogue place))
+standing catalogue config (Catalogue place) = standing_table catalogue place
 standing catalogue config (Config place) = located config (config_place place)
 
 -- the file that a place is in

@@ -39,11 +39,6 @@ has_odd before last (byte ∷ bytes) =
     if is_space byte then has_odd before last bytes
     else is_odd before last byte || has_odd last byte bytes
 
--- # plain text (profile)
--- A text in which each line that looks like a header is one.
-abbrev pub is_plain : List ℕ → Bool
-is_plain text = not (has_odd 10 10 text)
-
 -- the count after a line that may begin here
 abbrev pub counted : List ℕ → List ℕ → ℕ → List ℕ → ℕ
 counted outer header count line =
@@ -58,6 +53,11 @@ headers outer header count fresh [] = count
 headers outer header count fresh (byte ∷ bytes) =
     headers outer header (if fresh then counted outer header count (byte ∷ bytes) else count)
     (byte == 10) bytes
+
+-- # plain text (profile)
+-- A text in which each line that looks like a header is one, and no meter has groups by headers.
+abbrev pub is_plain : List ℕ → Bool
+is_plain text = not (has_odd 10 10 text) && headers [] (codes "[[meter.group]]") 0 true text == 0
 
 -- a header stands first
 abbrev pub is_header : List ℕ → List ℕ → Bool

@@ -1,5 +1,5 @@
 -- Where the tables of a catalogue, a config and a certificate stand in their texts.
-use Rattle.std.specs.Prelude.{ℕ, ◌==◌, Bool, true, ◌&&◌, List, [], codes, length}
+use Rattle.std.specs.Prelude.{ℕ, ◌==◌, Bool, true, ◌&&◌, ◌||◌, List, [], codes, length}
 use Rattle.metric_catalogue.specs.declared.fault.CataloguePlace.{CataloguePlace}
 use Rattle.metric_catalogue.specs.declared.fault.CataloguePlace.TheVariants as catalogue
 use Rattle.metric_cert.specs.declared.fault.CertList.{CertList}
@@ -12,15 +12,26 @@ use Rattle.metric_messages.specs.Standing.{is_nth, is_table}
 abbrev pub is_top : List ℕ → Bool
 is_top before = length before == 0
 
+-- the table of an instrument, of a meter or of a group
+abbrev pub instrument_table : Bool → List ℕ → Bool
+instrument_table plain rest =
+    is_table (codes "[[meter.instrument]]") plain rest
+    || is_table (codes "[[meter.group.instrument]]") plain rest
+
+-- the table of a key, of such an instrument or of a group
+abbrev pub key_table : Bool → List ℕ → Bool
+key_table plain rest =
+    is_table (codes "[[meter.instrument.key]]") plain rest
+    || (is_table (codes "[[meter.group.key]]") plain rest
+    || is_table (codes "[[meter.group.instrument.key]]") plain rest)
+
 -- the table of a place begins here
 abbrev pub catalogue_table : CataloguePlace → Bool → List ℕ → List ℕ → Bool
 catalogue_table catalogue.Top plain before rest = is_top before
 catalogue_table (catalogue.Meter number) plain before rest =
     is_table (codes "[[meter]]") plain rest
-catalogue_table (catalogue.Instrument number) plain before rest =
-    is_table (codes "[[meter.instrument]]") plain rest
-catalogue_table (catalogue.Key number key) plain before rest =
-    is_table (codes "[[meter.instrument.key]]") plain rest
+catalogue_table (catalogue.Instrument number) plain before rest = instrument_table plain rest
+catalogue_table (catalogue.Key number key) plain before rest = key_table plain rest
 catalogue_table (catalogue.SharedKey number) plain before rest =
     is_table (codes "[[key]]") plain rest
 catalogue_table (catalogue.Recorder number) plain before rest =

@@ -2,17 +2,18 @@
 use crate::cause::{Cause, Named};
 use crate::mistake::{Mistake, Wrong};
 use crate::reasons::{
-    Entries, number_of, of_boundaries, of_format, of_list, of_name, of_range, of_repeated, of_unit,
-    of_value, of_word,
+    Entries, number_of, of_boundaries, of_format, of_list, of_name, of_range, of_repeated, of_span,
+    of_unit, of_value, of_word,
 };
 use crate::site::Site;
 use crate::standing_tables::entry_in;
 use crate::tables::{
     id_in, instrument_at, instrument_count, is_among, name_in, near_id, near_instrument,
+    other_field,
 };
 use crate::way::{Way, table_on};
 use metric_catalogue::{
-    CatalogueDefect, CatalogueField, CataloguePlace, CatalogueSpot, field_names,
+    CatalogueDefect, CatalogueField, CataloguePlace, CatalogueSpot, field_names, names_in,
 };
 use metric_views::kind_names;
 use std::alloc::Global;
@@ -44,8 +45,8 @@ pub(crate) fn catalogue_cause<'v>(
 
 // Where the field of a spot is, and its value.
 fn site_of<'v>(top: &'v Table, defect: CatalogueDefect, spot: CatalogueSpot) -> Site<'v> {
-    match defect {
-        CatalogueDefect::UnknownField => unknown_site(top, spot),
+    match (defect, spot.entry) {
+        (CatalogueDefect::UnknownField, None) => unknown_site(top, spot),
         _ => known_site(top, spot),
     }
 }
@@ -57,8 +58,32 @@ fn unknown_site<'v>(top: &'v Table, spot: CatalogueSpot) -> Site<'v> {
 }
 
 fn known_site<'v>(top: &'v Table, spot: CatalogueSpot) -> Site<'v> {
-    let way = way_to(top, spot.place);
+    let way = way_to_field(top, spot);
     Site::of_known(top, way, spot.field.name(), entry_in(spot))
+}
+
+// The way to the table that has the field of a spot: of an instrument that lacks it, to its group.
+fn way_to_field<'v>(top: &Table, spot: CatalogueSpot) -> Way<'v> {
+    match spot.place {
+        CataloguePlace::Instrument(number) => {
+            way_to_group(top, number, spot.field.name()).unwrap_or(way_to(top, spot.place))
+        }
+        place => way_to(top, place),
+    }
+}
+
+// The way to the group of an instrument that lacks a field which its group has.
+fn way_to_group<'v>(top: &Table, number: u32, field: &str) -> Option<Way<'v>> {
+    let at = instrument_at(top, number as usize);
+    let group = Way::top()
+        .then("meter", Some(at.meter))
+        .then("group", Some(at.group?));
+    let own = table_on(top, way_to_instrument(top, number))?;
+    if own.get(field).is_none() && table_on(top, group)?.get(field).is_some() {
+        Some(group)
+    } else {
+        None
+    }
 }
 
 // The number of the format, where the file has it.
@@ -76,7 +101,9 @@ fn way_to<'v>(top: &Table, place: CataloguePlace) -> Way<'v> {
         CataloguePlace::Top => Way::top(),
         CataloguePlace::Meter(number) => Way::top().element("meter", number),
         CataloguePlace::Instrument(number) => way_to_instrument(top, number),
-        CataloguePlace::Key(number, key) => way_to_instrument(top, number).element("key", key),
+        CataloguePlace::Key(number, key) => way_to_group(top, number, "key")
+            .unwrap_or(way_to_instrument(top, number))
+            .element("key", key),
         CataloguePlace::SharedKey(number) => Way::top().element("key", number),
         CataloguePlace::Recorder(number) => Way::top().element("recorder", number),
         CataloguePlace::Budget(number, budget) => Way::top()
@@ -86,10 +113,13 @@ fn way_to<'v>(top: &Table, place: CataloguePlace) -> Way<'v> {
 }
 
 fn way_to_instrument<'v>(top: &Table, number: u32) -> Way<'v> {
-    let (meter, instrument) = instrument_at(top, number as usize);
-    Way::top()
-        .then("meter", Some(meter))
-        .then("instrument", Some(instrument))
+    let at = instrument_at(top, number as usize);
+    let meter = Way::top().then("meter", Some(at.meter));
+    let list = match at.group {
+        Some(group) => meter.then("group", Some(group)),
+        None => meter,
+    };
+    list.then("instrument", Some(at.number))
 }
 
 // The table of a place as a person knows it, with the one that it stands in where that is an instrument or a recorder.
@@ -135,9 +165,9 @@ fn wrong_of<'v>(
 ) -> Wrong<'v> {
     let value = site.value;
     match defect {
-        CatalogueDefect::MissingField => site.missing(),
+        CatalogueDefect::MissingField => missing(spot, site),
         CatalogueDefect::WrongKind => wrong_kind(top, spot, value),
-        CatalogueDefect::UnknownField => unknown_field(top, spot, site.name),
+        CatalogueDefect::UnknownField => unknown_field(top, spot, site),
         CatalogueDefect::BadName => bad_name(alloc, spot, value),
         CatalogueDefect::BadUnit => of_unit(alloc, value),
         CatalogueDefect::BadRange => bad_range(spot, value),
@@ -195,6 +225,16 @@ const SAME_BUDGET: &str = ": an earlier budget of the recorder is for the same i
 
 const RESERVED: &str = ": this name marks the overflow point, and no key may have it";
 
+// That a field is missing, or a field of a table in the list that it is.
+fn missing<'v>(spot: CatalogueSpot, site: Site<'v>) -> Wrong<'v> {
+    match (spot.entry, site.value) {
+        (Some(number), Some(value)) => Wrong::EntryNotA(number, value, SPAN),
+        _ => site.missing(),
+    }
+}
+
+const SPAN: &str = "a range with from and to, two whole numbers";
+
 // That a value is of another kind than the field takes.
 fn wrong_kind<'v>(top: &Table, spot: CatalogueSpot, value: Option<&'v Value>) -> Wrong<'v> {
     match spot.field {
@@ -206,14 +246,16 @@ fn wrong_kind<'v>(top: &Table, spot: CatalogueSpot, value: Option<&'v Value>) ->
             of_value(value, "a whole number")
         }
         CatalogueField::Optional => of_value(value, "true or false"),
-        CatalogueField::Values | CatalogueField::Allowed => wrong_entry(spot, value),
+        CatalogueField::Values | CatalogueField::Allowed => wrong_entry(top, spot, value),
         CatalogueField::Key => wrong_key(spot, value),
-        CatalogueField::Budget if format_of(top) == 3 => {
-            of_value(value, "a table of numbers by the names of instruments")
-        }
+        CatalogueField::Budget if format_of(top) == 3 => match spot.place {
+            CataloguePlace::Instrument(_) => of_value(value, "a whole number"),
+            _ => of_value(value, "a table of numbers by the names of instruments"),
+        },
         CatalogueField::Meter | CatalogueField::Recorder | CatalogueField::Budget => {
             of_list(value, Entries::Tables)
         }
+        CatalogueField::Group => wrong_group(spot, value),
         CatalogueField::Instrument => match spot.place {
             CataloguePlace::Budget(_, _) => of_value(value, "the number of an instrument"),
             _ => of_list(value, Entries::Tables),
@@ -235,6 +277,20 @@ fn formats_of(top: &Table) -> &'static str {
         "1 and 2"
     } else {
         "1 to 3"
+    }
+}
+
+// That the list of groups, or the instruments of an entry of it, are of another kind.
+fn wrong_group<'v>(spot: CatalogueSpot, value: Option<&'v Value>) -> Wrong<'v> {
+    match (spot.entry, value) {
+        (Some(number), Some(value)) => {
+            Wrong::EntryNotA(
+                number,
+                value,
+                "a group, whose instrument is a list of tables",
+            )
+        }
+        _ => of_list(value, Entries::Tables),
     }
 }
 
@@ -285,10 +341,10 @@ fn no_key<'v>(top: &'v Table, value: Option<&'v Value>) -> Wrong<'v> {
 }
 
 // That a value of a key or a combination, or the list of them, is of another kind.
-fn wrong_entry<'v>(spot: CatalogueSpot, value: Option<&'v Value>) -> Wrong<'v> {
+fn wrong_entry<'v>(top: &Table, spot: CatalogueSpot, value: Option<&'v Value>) -> Wrong<'v> {
     match (spot.entry, value, spot.field) {
         (Some(number), Some(value), CatalogueField::Values) => {
-            Wrong::EntryNotA(number, value, "text, a whole number, true or false")
+            Wrong::EntryNotA(number, value, value_words(top, value))
         }
         (Some(number), Some(value), _) => Wrong::EntryNotA(
             number,
@@ -299,12 +355,38 @@ fn wrong_entry<'v>(spot: CatalogueSpot, value: Option<&'v Value>) -> Wrong<'v> {
     }
 }
 
-// That the table does not know a field, or does only from a later format on.
-fn unknown_field<'v>(top: &Table, spot: CatalogueSpot, name: &'v str) -> Wrong<'v> {
+// What a value of a key is to be, where it is none.
+fn value_words(top: &Table, value: &Value) -> &'static str {
+    if value.as_table().is_some() && format_of(top) == 3 {
+        SPAN
+    } else {
+        "text, a whole number, true or false"
+    }
+}
+
+// That the table does not know a field, or does only in a later or an earlier format.
+fn unknown_field<'v>(top: &Table, spot: CatalogueSpot, site: Site<'v>) -> Wrong<'v> {
+    if spot.entry.is_some() {
+        let names = names_in(spot.field);
+        return Wrong::Unknown(other_in(site.value, names), names);
+    }
+    let name = site.name;
     if is_among(field_names(spot.place, 2), name) {
-        return Wrong::Later(name);
+        return if format_of(top) == 3 {
+            Wrong::Earlier(name, "budget")
+        } else {
+            Wrong::Later(name)
+        };
     }
     Wrong::Unknown(name, field_names(spot.place, format_of(top)))
+}
+
+// The first field of a table, by name, that is none of these.
+fn other_in<'v>(value: Option<&'v Value>, names: &[&str]) -> &'v str {
+    match value {
+        Some(Value::Table(table)) => other_field(table, names).unwrap_or(""),
+        _ => "",
+    }
 }
 
 fn bad_name<'v>(alloc: Global, spot: CatalogueSpot, value: Option<&'v Value>) -> Wrong<'v> {
@@ -317,8 +399,12 @@ fn bad_name<'v>(alloc: Global, spot: CatalogueSpot, value: Option<&'v Value>) ->
 fn bad_range<'v>(spot: CatalogueSpot, value: Option<&'v Value>) -> Wrong<'v> {
     match spot.field {
         CatalogueField::Range => of_range(value),
+        CatalogueField::Values => of_span(value),
         CatalogueField::Count => of_value(value, "a whole number from 1 to 64"),
-        CatalogueField::Budget => Wrong::Entry(budget_name(spot, value), NO_AMOUNT),
+        CatalogueField::Budget => match spot.place {
+            CataloguePlace::Instrument(_) => of_value(value, "a whole number from 0 on"),
+            _ => Wrong::Entry(budget_name(spot, value), NO_AMOUNT),
+        },
         _ => of_value(value, "a whole number from 0 on"),
     }
 }
@@ -328,7 +414,11 @@ fn most_of(spot: CatalogueSpot) -> &'static str {
     match spot.field {
         CatalogueField::Meter => "64 meters",
         CatalogueField::Recorder => "64 recorders",
-        CatalogueField::Instrument => "512 instruments of all meters",
+        CatalogueField::Instrument => INSTRUMENTS,
+        CatalogueField::Group => match spot.entry {
+            Some(_) => INSTRUMENTS,
+            None => "64 groups",
+        },
         CatalogueField::Boundaries => "128 boundaries",
         CatalogueField::Key => match spot.place {
             CataloguePlace::Top => "512 keys",
@@ -354,6 +444,8 @@ fn most_of(spot: CatalogueSpot) -> &'static str {
         | CatalogueField::Amount => CHARACTERS,
     }
 }
+
+const INSTRUMENTS: &str = "512 instruments of all meters";
 
 const CHARACTERS: &str = "1023 characters";
 

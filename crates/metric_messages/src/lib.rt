@@ -9,6 +9,7 @@
 //! | `make`, of a catalogue and a config that are not safe | `diagnose_make` |
 //! | `lint`, each remark | `diagnose_remark` |
 //! | `exposure_faults`, each fault | `diagnose_exposure` |
+//! | what reads any other text | `diagnose_at` |
 //!
 //! Each call takes the fault with the texts that it is of, and gives a `Diagnosis` of it, which keeps the fault itself.
 //! Printed, it is one line, and its `excerpt` shows the place:
@@ -42,6 +43,7 @@ mod missed;
 mod mistake;
 mod named;
 mod near;
+mod placed;
 mod places;
 mod reasons;
 mod remarks;
@@ -66,6 +68,10 @@ pub use config::diagnose_config;
 pub use diagnosis::Diagnosis;
 pub use excerpt::Excerpt;
 pub use exposures::diagnose_exposure;
+pub use named::{NamedStream, stream_of};
+pub use near::nearest;
+pub use placed::diagnose_at;
 pub use remarks::diagnose_remark;
+pub use shown::Quoted;
 pub use sources::{NamedText, Pair};
 pub use unsafe_parts::diagnose_make;

@@ -25,6 +25,8 @@ pub(crate) enum Wrong<'v> {
     Unknown(&'v str, &'static [&'static str]),
     // The table has this field only in the latest format.
     Later(&'v str),
+    // The table has this field only in an earlier format, and in its place another.
+    Earlier(&'v str, &'static str),
     // The text is none of these words.
     NoneOf(&'v str, &'static [&'static str]),
     // There is no format of this number, but these.
@@ -59,6 +61,15 @@ impl fmt::Display for Mistake<'_> {
             Wrong::Unknown(name, known) => self.write_unknown_field(f, name, known),
             Wrong::Later(name) => {
                 write_one(f, ("field ", &Quoted(name)), " needs format = 2 at the top")
+            }
+            Wrong::Earlier(name, other) => {
+                let name = Quoted(name);
+                write_two(
+                    f,
+                    ("unknown field ", &name),
+                    (" in format 3; say ", &other),
+                    "",
+                )
             }
             Wrong::NoneOf(text, names) => self.write_unknown_word(f, text, names),
             Wrong::Missing => write_part(f, ("missing field ", &Quoted(self.field))),
@@ -137,6 +148,7 @@ impl fmt::Display for Wrong<'_> {
             Wrong::Missing
             | Wrong::Unknown(_, _)
             | Wrong::Later(_)
+            | Wrong::Earlier(_, _)
             | Wrong::NoneOf(_, _)
             | Wrong::Unsupported(_, _, _) => Ok(()),
             Wrong::Plain(words) => f.write_str(words),

@@ -37,9 +37,9 @@ pub(crate) fn reader_of(config: &Config, number: u32) -> Named<'_> {
     Named::new("reader", number, name)
 }
 
-// A stream with what it comes from.
+/// A stream with what it comes from.
 #[derive(Clone, Copy)]
-pub(crate) struct NamedStream<'t> {
+pub struct NamedStream<'t> {
     stream: Named<'t>,
     reader: Named<'t>,
     instrument: Named<'t>,
@@ -54,8 +54,8 @@ struct SourcedView<'t> {
     position: Option<Position>,
 }
 
-// The stream of a number, with what it comes from.
-pub(crate) fn stream_of<'t>(
+/// The stream of a number, with what it comes from, in words. Fails only when out of memory.
+pub fn stream_of<'t>(
     alloc: Global,
     pair: Pair<'t>,
     number: u32,

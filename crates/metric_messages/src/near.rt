@@ -5,7 +5,7 @@ ghost use Rattle.metric_messages.specs.Near.{alike, apart, is_as_near, is_near, 
 
 /// Of the words that are a slip of the hand away from a text the first of the nearest, or none where none is near. A
 /// word is near where both begin and end alike, but for two letters at most in the middle, and share more than those.
-pub(crate) fn nearest<'w>(text: &str, words: &[&'w str]) -> Option<&'w str>
+pub fn nearest<'w>(text: &str, words: &[&'w str]) -> Option<&'w str>
     ensures { result
         ≡ find (λ word. is_nearest text.now (map (λ w. w.now) words.now) word.now) words.now }
 {

@@ -1,10 +1,11 @@
 //! Where the tables of a catalogue and a config that were read stand.
 ghost use Rattle.std.specs.Prelude.{◌≡◌, ◌≤◌, IfOk, Some, map};
+ghost use Rattle.std.specs.List.{list_any};
 ghost use Rattle.std.specs.Option.{option_map};
 ghost use Rattle.toml.specs.Parse.{parse_document};
 ghost use Rattle.toml.specs.View.{table_view, view};
 ghost use Rattle.metric_table.specs.Fields.{as_list};
-ghost use Rattle.metric_messages.specs.Places.{file_of, seats_in, seats_of, standing, table_of, table_within, tables_in, written};
+ghost use Rattle.metric_messages.specs.Places.{file_of, has_group, has_groups, is_untold, seats_in, seats_of, standing, standing_table, table_of, table_within, tables_in, written};
 
 use crate::sources::{NamedText, Pair};
 use metric_catalogue::{CataloguePlace, is_three};
@@ -51,12 +52,70 @@ pub(crate) fn position_of(
         pair.entry.config_source.text.now place) }
 {
     match place {
-        Place::Catalogue(place) => {
-            let text = pair.catalogue_source.text;
-            let place = written(alloc, text, place)?;
-            locate_in_catalogue(alloc, text, place)
-        }
+        Place::Catalogue(place) => { position_of_table(alloc, pair.catalogue_source.text, place) }
         Place::Config(place) => locate_in_config(alloc, pair.config_source.text, place),
+    }
+}
+
+// Where the table of a place stands in the text of a catalogue, if its headers tell.
+fn position_of_table(
+    alloc: Global,
+    text: &str,
+    place: CataloguePlace,
+) -> Result<Option<Position>, AllocError>
+    ensures { IfOk result (λ found. found ≡ standing_table text.now place) }
+{
+    if is_untold(alloc, text, place)? {
+        return Ok(None);
+    }
+    let place = written(alloc, text, place)?;
+    locate_in_catalogue(alloc, text, place)
+}
+
+fn is_untold(alloc: Global, text: &str, place: CataloguePlace) -> Result<bool, AllocError>
+    ensures { IfOk result (λ untold. untold ≡ is_untold text.now place) }
+{
+    match place {
+        CataloguePlace::Instrument(_) => has_groups(alloc, text),
+        _ => Ok(false),
+    }
+}
+
+fn has_groups(alloc: Global, text: &str) -> Result<bool, AllocError>
+    ensures { IfOk result (λ grouped. grouped ≡ has_groups (parse_document text.now)) }
+{
+    match toml::table_from_str(alloc, text) {
+        Ok(top) => Ok(has_groups_in(&top)),
+        Err(error) if error.is_memory() => Err(AllocError),
+        Err(_) => Ok(false),
+    }
+}
+
+fn has_groups_in(top: &Table) -> bool
+    ensures { result ≡ has_groups (Some (table_view top.now)) }
+{
+    are_grouped(tables_in(member(top, "meter")))
+}
+
+fn are_grouped(meters: &[Value]) -> bool
+    ensures { result ≡ list_any has_group (map view meters.now) }
+{
+    is_any_grouped(meters)
+}
+
+fn is_any_grouped(meters: &[Value]) -> bool
+    ensures { result ≡ list_any (λ v. has_group (view v)) meters.now }
+{
+    meters.iter().any(|meter| has_group(meter))
+}
+
+// Whether a meter has groups.
+fn has_group(meter: &Value) -> bool
+    ensures { result ≡ has_group (view meter.now) }
+{
+    match meter {
+        Value::Table(fields) => member(fields, "group").is_some(),
+        _ => false,
     }
 }
 

@@ -107,15 +107,49 @@ pub(crate) fn of_range<'v>(value: Option<&'v Value>) -> Wrong<'v> {
     }
 }
 
-// The value of a list that stands before, too.
+// That a range among values ends before it begins.
+pub(crate) fn of_span<'v>(value: Option<&'v Value>) -> Wrong<'v> {
+    let Some(Value::Table(span)) = value else {
+        return ABSENT;
+    };
+    match (number_of(span.get("from")), number_of(span.get("to"))) {
+        (Some(first), Some(last)) => Wrong::Order(first, last, "the second is below the first"),
+        _ => ABSENT,
+    }
+}
+
+// The value of a list that stands before, too, there or in a range.
 pub(crate) fn of_repeated<'v>(value: Option<&'v Value>) -> Wrong<'v> {
     let values = values_of(value).unwrap_or(&[]);
     for (place, value) in values.iter().enumerate() {
-        if values.iter().take(place).any(|other| other == value) {
-            return Wrong::Repeated(value);
+        if values.iter().take(place).any(|other| meets(other, value)) {
+            return match value {
+                Value::Table(_) => Wrong::Plain(": a range has a value that is listed before it"),
+                value => Wrong::Repeated(value),
+            };
         }
     }
     ABSENT
+}
+
+// Whether two entries of a list have a value in common.
+fn meets(first: &Value, second: &Value) -> bool {
+    match (span_in(first), span_in(second)) {
+        (Some((from, to)), Some((start, end))) => from <= end && start <= to,
+        _ => first == second,
+    }
+}
+
+// The first and the last of the whole numbers that an entry stands for.
+fn span_in(value: &Value) -> Option<(i64, i64)> {
+    match value {
+        Value::Integer(number) => Some((*number, *number)),
+        Value::Table(span) => Some((
+            span.get("from")?.as_integer()?,
+            span.get("to")?.as_integer()?,
+        )),
+        _ => None,
+    }
 }
 
 // Why a text is no name of an instrument. A name is tried before memory is allocated for it, so if that runs out it is

@@ -24,9 +24,9 @@ impl fmt::Display for Shown<'_> {
     }
 }
 
-// A text in quotes, which is cut where it is long.
+/// A text in quotes, which is cut where it is long.
 #[derive(Clone, Copy)]
-pub(crate) struct Quoted<'t>(pub(crate) &'t str);
+pub struct Quoted<'t>(pub &'t str);
 
 impl fmt::Display for Quoted<'_> {
     fn fmt<W: fmt::Write>(&self, f: &mut fmt::Formatter<W>) -> fmt::Result {

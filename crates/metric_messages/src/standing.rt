@@ -41,11 +41,11 @@ fn is_odd(before: u8, last: u8, byte: u8) -> bool
                 || (before == byte && last == byte)))
 }
 
-// Whether each line of a text that looks like a header is one.
+// Whether each line of a text that looks like a header is one, and no meter has groups by headers.
 pub(crate) fn is_plain(text: &[u8]) -> bool
     ensures { result ≡ is_plain text.now }
 {
-    !has_odd(text)
+    !has_odd(text) && headers("", "[[meter.group]]", text) == 0
 }
 
 fn has_odd(text: &[u8]) -> bool

@@ -1,7 +1,7 @@
 //! Whether a place of a text is that of a fault.
 ghost use Rattle.std.specs.Prelude.{◌≡◌, ◌&&◌, ◌||◌, map, not};
-ghost use Rattle.metric_messages.specs.Marks.{certificate_marks, chosen, entry_in, is_field, kind_name, known_names, marks_in_catalogue, marks_in_config, marks_of};
-ghost use Rattle.metric_messages.specs.Tables.{catalogue_table, config_table, header_of, in_catalogue, in_config};
+ghost use Rattle.metric_messages.specs.Marks.{certificate_marks, chosen, entry_in, entry_marks, field_marks, kind_name, known_names, marks_in_catalogue, marks_in_config, marks_of, missing_marks, unknown_marks};
+ghost use Rattle.metric_messages.specs.Tables.{catalogue_table, config_table, header_of, in_catalogue, in_config, instrument_table, key_table};
 
 use crate::spot::{Spot, TableFault};
 use crate::standing::{
@@ -53,15 +53,29 @@ fn marks_in_catalogue(
     ensures { result ≡ marks_in_catalogue defect spot plain before.now rest.now }
 {
     match defect {
-        CatalogueDefect::MissingField => {
+        CatalogueDefect::MissingField => missing_marks(spot, plain, before, rest),
+        CatalogueDefect::UnknownField => unknown_marks(spot, before, rest),
+        _ => field_marks(entry_in(spot), spot.field, before, rest),
+    }
+}
+
+fn missing_marks(spot: CatalogueSpot, plain: bool, before: &[u8], rest: &[u8]) -> bool
+    ensures { result ≡ missing_marks spot.entry spot plain before.now rest.now }
+{
+    match spot.entry {
+        None => {
             catalogue_table(spot.place, plain, before, rest) || has_word(spot.field.name(), rest)
         }
-        CatalogueDefect::UnknownField => is_other(
-            metric_catalogue::field_names(spot.place, 1),
-            before,
-            rest,
-        ),
-        _ => is_field(entry_in(spot), spot.field.name(), before, rest),
+        Some(entry) => entry_marks(spot.field, entry, before, rest),
+    }
+}
+
+fn unknown_marks(spot: CatalogueSpot, before: &[u8], rest: &[u8]) -> bool
+    ensures { result ≡ unknown_marks spot.entry spot before.now rest.now }
+{
+    match spot.entry {
+        None => is_other(metric_catalogue::field_names(spot.place, 1), before, rest),
+        Some(entry) => entry_marks(spot.field, entry, before, rest),
     }
 }
 
@@ -75,12 +89,24 @@ pub(crate) fn entry_in(spot: CatalogueSpot) -> Option<u32>
     }
 }
 
-fn is_field(entry: Option<u32>, name: &str, before: &[u8], rest: &[u8]) -> bool
-    ensures { result ≡ is_field entry name.now before.now rest.now }
+fn field_marks(entry: Option<u32>, field: CatalogueField, before: &[u8], rest: &[u8]) -> bool
+    ensures { result ≡ field_marks entry field before.now rest.now }
 {
     match entry {
-        None => has_word(name, rest),
-        Some(entry) => is_listed(name, entry as usize, before),
+        None => has_word(field.name(), rest),
+        Some(entry) => entry_marks(field, entry, before, rest),
+    }
+}
+
+// The entry of a field's list, which of groups may be a table by its header.
+fn entry_marks(field: CatalogueField, entry: u32, before: &[u8], rest: &[u8]) -> bool
+    ensures { result ≡ entry_marks field entry before.now rest.now }
+{
+    match field {
+        CatalogueField::Group => {
+            is_header("[[meter.group]]", rest) || is_listed("group", entry as usize, before)
+        }
+        field => is_listed(field.name(), entry as usize, before),
     }
 }
 
@@ -90,12 +116,27 @@ fn catalogue_table(place: CataloguePlace, plain: bool, before: &[u8], rest: &[u8
     match place {
         CataloguePlace::Top => before.len() == 0,
         CataloguePlace::Meter(_) => is_table("[[meter]]", plain, rest),
-        CataloguePlace::Instrument(_) => is_table("[[meter.instrument]]", plain, rest),
-        CataloguePlace::Key(_, _) => is_table("[[meter.instrument.key]]", plain, rest),
+        CataloguePlace::Instrument(_) => instrument_table(plain, rest),
+        CataloguePlace::Key(_, _) => key_table(plain, rest),
         CataloguePlace::SharedKey(_) => is_table("[[key]]", plain, rest),
         CataloguePlace::Recorder(_) => is_table("[[recorder]]", plain, rest),
         CataloguePlace::Budget(_, _) => is_table("[[recorder.budget]]", plain, rest),
     }
+}
+
+fn instrument_table(plain: bool, rest: &[u8]) -> bool
+    ensures { result ≡ instrument_table plain rest.now }
+{
+    is_table("[[meter.instrument]]", plain, rest)
+        || is_table("[[meter.group.instrument]]", plain, rest)
+}
+
+fn key_table(plain: bool, rest: &[u8]) -> bool
+    ensures { result ≡ key_table plain rest.now }
+{
+    is_table("[[meter.instrument.key]]", plain, rest)
+        || is_table("[[meter.group.key]]", plain, rest)
+        || is_table("[[meter.group.instrument.key]]", plain, rest)
 }
 
 fn in_catalogue(place: CataloguePlace, before: &[u8], rest: &[u8]) -> bool

@@ -57,7 +57,19 @@ pub(crate) fn near_instrument<'v>(top: &'v Table, text: &str) -> Option<&'v str>
 }
 
 fn near_of_meter<'v>(meter: &'v Value, text: &str) -> Option<&'v str> {
-    for instrument in instruments_of(meter) {
+    if let Some(name) = near_of_list(meter, text) {
+        return Some(name);
+    }
+    for group in groups_of(meter) {
+        if let Some(name) = near_of_list(group, text) {
+            return Some(name);
+        }
+    }
+    None
+}
+
+fn near_of_list<'v>(tables: &'v Value, text: &str) -> Option<&'v str> {
+    for instrument in instruments_of(tables) {
         if let Some(name) = near(text_in(instrument, "name"), text) {
             return Some(name);
         }
@@ -90,7 +102,7 @@ pub(crate) fn is_among(names: &[&str], key: &str) -> bool {
     false
 }
 
-// The instruments of a meter.
+// The instruments of a meter or a group.
 fn instruments_of(meter: &Value) -> &[Value] {
     match meter.as_table() {
         Some(table) => list_in(table, "instrument"),
@@ -98,24 +110,82 @@ fn instruments_of(meter: &Value) -> &[Value] {
     }
 }
 
-// The meter of the instrument of a number, and the instrument's number among those of the meter.
-pub(crate) fn instrument_at(top: &Table, number: usize) -> (usize, usize) {
+// The groups of a meter.
+fn groups_of(meter: &Value) -> &[Value] {
+    match meter.as_table() {
+        Some(table) => list_in(table, "group"),
+        None => &[],
+    }
+}
+
+// Where an instrument is: the number of its meter, of its group if it is in one, and its own among those.
+#[derive(Clone, Copy)]
+pub(crate) struct InstrumentAt {
+    pub(crate) meter: usize,
+    pub(crate) group: Option<usize>,
+    pub(crate) number: usize,
+}
+
+// Where the instrument of a number is.
+pub(crate) fn instrument_at(top: &Table, number: usize) -> InstrumentAt {
     let mut left = number;
     for (meter, value) in list_in(top, "meter").iter().enumerate() {
-        let count = instruments_of(value).len();
+        let count = count_of(value);
         if left < count {
-            return (meter, left);
+            return instrument_in(meter, value, left);
         }
         left -= count;
     }
-    (usize::MAX, left)
+    InstrumentAt {
+        meter: usize::MAX,
+        group: None,
+        number: left,
+    }
+}
+
+// The instrument of a number among those of a meter and its groups.
+fn instrument_in(meter: usize, value: &Value, number: usize) -> InstrumentAt {
+    let own = instruments_of(value).len();
+    if number < own {
+        return InstrumentAt {
+            meter,
+            group: None,
+            number,
+        };
+    }
+    let mut left = number - own;
+    for (group, value) in groups_of(value).iter().enumerate() {
+        let count = instruments_of(value).len();
+        if left < count {
+            return InstrumentAt {
+                meter,
+                group: Some(group),
+                number: left,
+            };
+        }
+        left -= count;
+    }
+    InstrumentAt {
+        meter,
+        group: None,
+        number,
+    }
+}
+
+// How many instruments a meter and its groups have.
+fn count_of(meter: &Value) -> usize {
+    let mut count = instruments_of(meter).len();
+    for group in groups_of(meter) {
+        count = count.saturating_add(instruments_of(group).len());
+    }
+    count
 }
 
 // How many instruments the meters have.
 pub(crate) fn instrument_count(top: &Table) -> usize {
     let mut count = 0usize;
     for meter in list_in(top, "meter") {
-        count = count.saturating_add(instruments_of(meter).len());
+        count = count.saturating_add(count_of(meter));
     }
     count
 }

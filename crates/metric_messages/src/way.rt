@@ -9,8 +9,8 @@ pub(crate) struct Level<'v> {
     pub(crate) number: Option<usize>,
 }
 
-// The most steps of a way: to a meter, an instrument, a key and its field.
-const MOST: usize = 4;
+// The most steps of a way: to a meter, a group, an instrument, a key and its field.
+const MOST: usize = 5;
 
 // The steps from the top.
 #[derive(Clone, Copy)]

@@ -20,7 +20,8 @@ impl fmt::Display for AllFault {
     ghost use Rattle.std.specs.Prelude.{Some, codes};
     ghost use Rattle.metric_seat.specs.Faults.{refused_text};
 
-    ghost output = { λ fault. Some (refused_text (codes "instrument ") fault.instrument fault.refusal) };
+    ghost output = { λ fault.
+        Some (refused_text (codes "instrument ") fault.instrument fault.refusal) };
 
     fn fmt<W: fmt::Write>(&self, f: &mut fmt::Formatter<W>) -> fmt::Result {
         let instrument = self.instrument;

@@ -66,7 +66,8 @@ pub(crate) fn grant_in<R: Wait, L: Row>(
         asked.now.facts.now asked.now.recorder asked.now.amount diary.new) }
     ensures nothing { OnErr result (GrantsNothing L.does diary.old 0 asked.now.facts.now
         asked.now.recorder asked.now.amount diary.new) }
-    ensures answer { AnswersGrant (Some asked.now.facts.now) asked.now.recorder asked.now.amount result }
+    ensures answer { AnswersGrant (Some asked.now.facts.now)
+        asked.now.recorder asked.now.amount result }
 {
     let lane = row.place_of(asked.recorder);
     grant_from(rt, row, asked, lane, 0, asked.facts.spare, diary)

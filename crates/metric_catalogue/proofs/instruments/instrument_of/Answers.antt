@@ -1,8 +1,10 @@
 -- each exit
-use Rattle.std.proofs.Common.{List, ℕ, refl, sym, ap, ◌∙◌}
+use Rattle.std.proofs.Common.{List, ℕ, map, refl, sym, ap, ◌∙◌}
 use Rattle.std.proofs.lemmas.Result.{err_from_is_err_and}
 use Rattle.std.specs.List.{list_any}
+use Rattle.toml.specs.View.{table_view}
 use Rattle.metric_catalogue.specs.Instruments.{instrument_of, is_instrument}
+use Rattle.metric_catalogue.specs.Unsaid.{unsaid}
 use Rattle.metric_catalogue.proofs.instruments.instrument_of.Goals as goal
 
 pub returns-in_err-head : goal.returns-in_err-head
@@ -30,12 +32,16 @@ unfolding instrument_of
 returns-in_err-limits c =
     let p = err_from_is_err_and c.from_residual-in_err-limits.result c.from_residual-in_err-limits.ensures.1 in
     let range = sym c.range_field.ensures ∙ c.in_ok-range.was in
-    let taken = sym (c.has_instrument-is_taken.ensures ∙ ap (λ (name : List ℕ). list_any (is_instrument c.args.meter name) c.args.before.now) c.get.ensures) in
-    rw (p.1, p.2) (λ other. rw (c.in_ok-head.ensures, range, c.in_ok-advice.ensures, taken, c.in_err-limits.ensures other) refl)
+    let taken = sym (c.has_instrument-is_taken.ensures ∙ ap (λ (name : List ℕ). list_any (is_instrument c.args.meter name) c.args.before.now) c.get-name.ensures) in
+    let spare = sym (c.in_ok-otherwise.ensures.exact
+    ∙ ap (λ (name : List ℕ). unsaid c.args.format (map (λ t. table_view t.now) c.args.recorders.now) c.args.meter_name.now name c.in_ok-head.head.kind c.in_ok-range.range) c.get-name.ensures) in
+    rw (p.1, p.2) (λ other. rw (c.in_ok-head.ensures, range, c.in_ok-advice.ensures, taken, spare, c.in_err-limits.ensures other) refl)
 
 pub returns : goal.returns
 unfolding instrument_of
 returns c =
     let range = sym c.range_field.ensures ∙ c.in_ok-range.was in
-    let taken = sym (c.has_instrument-is_taken.ensures ∙ ap (λ (name : List ℕ). list_any (is_instrument c.args.meter name) c.args.before.now) c.get.ensures) in
-    rw (c.in_ok-head.ensures, range, c.in_ok-advice.ensures, taken, c.in_ok-limits.ensures, c.instrument.ensures) refl
+    let taken = sym (c.has_instrument-is_taken.ensures ∙ ap (λ (name : List ℕ). list_any (is_instrument c.args.meter name) c.args.before.now) c.get-name.ensures) in
+    let spare = sym (c.in_ok-otherwise.ensures.exact
+    ∙ ap (λ (name : List ℕ). unsaid c.args.format (map (λ t. table_view t.now) c.args.recorders.now) c.args.meter_name.now name c.in_ok-head.head.kind c.in_ok-range.range) c.get-name.ensures) in
+    rw (c.in_ok-head.ensures, range, c.in_ok-advice.ensures, taken, spare, c.in_ok-limits.ensures, c.instrument.ensures) refl

@@ -9,6 +9,6 @@ abbrev pub invariant-loop-table : goal.invariant-loop-table
 invariant-loop-table l = record {
   meters : length l.metered.meters ≡ length l.initial.metered.meters + l.table-index;
   instruments : length l.metered.instruments ≤ 512;
-  exact : in_turn (with_meter l.format l.shared) l.metered (map (λ t. table_view t.now) (drop l.table-index l.tables))
-      ≡ in_turn (with_meter l.format l.shared) l.initial.metered (map (λ t. table_view t.now) l.tables);
+  exact : in_turn (with_meter l.format l.shared (map (λ t. table_view t.now) l.recorders)) l.metered (map (λ t. table_view t.now) (drop l.table-index l.tables))
+      ≡ in_turn (with_meter l.format l.shared (map (λ t. table_view t.now) l.recorders)) l.initial.metered (map (λ t. table_view t.now) l.tables);
 }

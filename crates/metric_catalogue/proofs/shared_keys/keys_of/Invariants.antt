@@ -8,6 +8,6 @@ use Rattle.metric_catalogue.proofs.shared_keys.keys_of.Given as goal
 abbrev pub invariant-loop-entry : goal.invariant-loop-entry
 invariant-loop-entry l = record {
   few : length l.keys ≡ l.entry-index;
-  exact : each (key_entry l.shared l.instrument) l.keys (map view (drop l.entry-index l.entries))
-      ≡ each (key_entry l.shared l.instrument) [] (map view l.entries);
+  exact : each (key_entry l.format l.shared l.instrument) l.keys (map view (drop l.entry-index l.entries))
+      ≡ each (key_entry l.format l.shared l.instrument) [] (map view l.entries);
 }

@@ -2,8 +2,9 @@
 use Rattle.std.proofs.Common.{◌≡◌, ℕ, ◌*◌, ◌≤◌, ◌^◌, ◌-◌, IsTrue, SFits, w64, sym, ap, subst, ◌∙◌, rules}
 use Rattle.std.proofs.lemmas.Int.{to_z-of_z}
 use Rattle.metric_bounds.specs.Safe.{HighFits}
-use Rattle.metric_lint.specs.Headrooms.{above}
-use Rattle.metric_lint.proofs.Numbers.{high_fits, high_fitted, same_most}
+use Rattle.metric_contents.specs.Most.{above}
+use Rattle.metric_bounds.specs.MostLaws.{high_fits, high_fitted}
+use Rattle.metric_lint.proofs.Numbers.{most_told, same_most}
 use Rattle.metric_lint.proofs.headroom.most_by_high.Goals as goal
 
 pub returns : goal.returns
@@ -15,4 +16,4 @@ returns c =
     same_most (λ t. t * step ≤ 2 ^ 63 - 1) (λ t. IsTrue c.args.is_summed → HighFits t i) c.most_within.result
     (λ t small summed. high_fits t i (subst (λ (b : ℕ). t * b ≤ 2 ^ 63 - 1) is small))
     (λ t fit. subst (λ (b : ℕ). t * b ≤ 2 ^ 63 - 1) (sym is) (high_fitted t i (fit c.if-not-is_summed.false)))
-    c.most_within.ensures
+    (most_told (2 ^ 63 - 1) step c.most_within.result c.most_within.ensures)

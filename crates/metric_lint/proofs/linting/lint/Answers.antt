@@ -3,7 +3,6 @@ use Rattle.std.proofs.Common.{Bool, ◌≡◌, ℕ, ◌++◌, List, length, map,
 use Rattle.std.specs.List.{AllZip, flat_map, range_with_len}
 use Rattle.std.proofs.lemmas.List.FromFn.{length-map-range_with_len, length-range_with_len}
 use Rattle.std.proofs.lemmas.Slice.Zip.{AllZip-long}
-use Rattle.metric_contents.specs.declared.contents.Recorder.{Recorder}
 use Rattle.metric_views.specs.declared.stream.Stream.{Stream}
 use Rattle.metric_resolve.specs.Applying.{all_instruments, all_views}
 use Rattle.metric_resolve.specs.Resolved.{streams_of}
@@ -54,8 +53,7 @@ returns c =
           ∙ ap (λ (s : List Stream). c.add_recorders.new.remarks ++ collected_remarks contents config s) fourth
           ∙ ap (λ (rs : List Remark). rs ++ collected_remarks contents config streams)
           (c.in_ok-add_recorders.ensures
-          ∙ ap (λ (rs : List Recorder). c.add_streams.new.remarks ++ all_recorder_remarks rs) c.recorders.ensures.recorders
-          ∙ ap (λ (rs : List Remark). rs ++ all_recorder_remarks contents.recorders)
+          ∙ ap (λ (rs : List Remark). rs ++ all_recorder_remarks contents)
           (c.in_ok-add_streams.ensures
           ∙ ap (λ (s : List Stream). c.add_instruments.new.remarks ++ stream_remarks contents s) third
           ∙ ap (λ (rs : List Remark). rs ++ stream_remarks contents streams)
