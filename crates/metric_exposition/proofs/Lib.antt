@@ -1,3 +1,4 @@
 pub mod LabelLaws
 pub mod BucketLaws
 pub mod TargetLaws
+mod GatherLaws

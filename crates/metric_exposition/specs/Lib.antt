@@ -5,6 +5,7 @@ pub mod Pieces
 pub mod Samples
 pub mod Headers
 pub mod Expositions
+pub mod Sections
 pub mod Targets
 pub mod TargetFaults
 pub mod Pages

@@ -6,7 +6,7 @@ use Rattle.metric_contents.specs.declared.contents.Contents.{Contents}
 use Rattle.metric_views.specs.declared.stream.Stream.{Stream}
 use Rattle.metric_history.specs.declared.batch.Batch.{Batch}
 use Rattle.metric_exposition.specs.Dialects.{is_open_metrics}
-use Rattle.metric_exposition.specs.Expositions.{exposition}
+use Rattle.metric_exposition.specs.Sections.{batch_sections, gathered}
 use Rattle.metric_exposition.specs.Targets.{target_text}
 use Rattle.metric_exposition.specs.declared.dialect.Dialect.{Dialect}
 
@@ -18,10 +18,15 @@ end_by false = []
 abbrev pub end_text : Dialect → List ℕ
 end_text dialect = end_by (is_open_metrics dialect)
 
+-- the lines of batches, those of one family together
+abbrev pub page_lines : Dialect → Contents → List Stream → List Batch → List ℕ
+page_lines dialect catalogue streams batches =
+    gathered (flat_map (batch_sections dialect catalogue streams) batches)
+
 -- # page (OpenMetrics) [page, end_text]
--- The target, the expositions of batches, and the end.
+-- The target, the lines of batches, and the end.
 abbrev pub page : Dialect → List OwnedAttr → Contents → List Stream → List Batch → List ℕ
 page dialect resource catalogue streams batches =
     target_text dialect resource
-    ++ flat_map (exposition dialect catalogue streams) batches
+    ++ page_lines dialect catalogue streams batches
     ++ end_text dialect

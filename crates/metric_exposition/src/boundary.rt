@@ -8,7 +8,7 @@ use std::alloc::AllocError;
 
 /// Writes a boundary as Prometheus writes the double of its value, so that a server has no reason to write it anew: up
 /// to six digits with `.0` behind them, more with an exponent. Exact for the boundaries that are exact as doubles.
-pub(crate) fn push_boundary(out: &mut Vec<u8>, boundary: i64) -> Result<(), AllocError>
+pub fn push_boundary(out: &mut Vec<u8>, boundary: i64) -> Result<(), AllocError>
     ensures { OnOk result (out.new.items ≡ out.old.items ++ le_text boundary) }
 {
     if boundary < 0 {

@@ -16,7 +16,7 @@ pub enum Dialect {
 
 impl Dialect {
     /// Whether it is OpenMetrics.
-    pub(crate) fn is_open_metrics(self) -> bool
+    pub fn is_open_metrics(self) -> bool
         ensures { result ≡ is_open_metrics self }
     {
         match self {
@@ -26,7 +26,7 @@ impl Dialect {
     }
 
     /// When points begin, where it is told.
-    pub(crate) fn created_at(self, start: u64) -> Option<u64>
+    pub fn created_at(self, start: u64) -> Option<u64>
         ensures { result ≡ created_at self start }
     {
         match self {

@@ -53,13 +53,17 @@ pub fn push_exposition(
     push_streams(alloc, out, &source, streams, batch.streams.as_slice())
 }
 
-// What the streams of a batch have in common.
+/// What the streams of a batch have in common.
 #[derive(Clone, Copy)]
-struct Source<'a> {
-    dialect: Dialect,
-    meter: &'a Meter,
-    keys: &'a [Key],
-    start: u64,
+pub(crate) struct Source<'a> {
+    /// How the page is written.
+    pub dialect: Dialect,
+    /// The meter of the instrument.
+    pub meter: &'a Meter,
+    /// Its keys.
+    pub keys: &'a [Key],
+    /// When the points begin.
+    pub start: u64,
 }
 
 #[tactic(auto, using(metric_text::specs::ListLaws::steps))]
@@ -137,16 +141,18 @@ fn push_named(
     push_points(out, &mut room, source, name, stream, points)
 }
 
-// Where what several lines of a point have is written first: its labels, and how the lines of its buckets begin.
+/// Where what several lines of a point have is written first: its labels, and how the lines of its buckets begin.
 #[derive(Drop)]
-struct Room {
-    labels: Vec<u8>,
-    head: Vec<u8>,
+pub(crate) struct Room {
+    /// The labels.
+    pub labels: Vec<u8>,
+    /// How the lines of buckets begin.
+    pub head: Vec<u8>,
 }
 
-// Writes the lines of points.
+/// Writes the lines of points.
 #[tactic(auto, using(metric_text::specs::ListLaws::steps))]
-fn push_points(
+pub(crate) fn push_points(
     out: &mut Vec<u8>,
     room: &mut Room,
     source: &Source<'_>,
@@ -238,7 +244,8 @@ fn push_value(
     }
 }
 
-fn boundaries_of(aggregation: &StreamAggregation) -> &[i64]
+/// The boundaries of a histogram, none of another stream.
+pub fn boundaries_of(aggregation: &StreamAggregation) -> &[i64]
     ensures { result.now ≡ boundaries_of aggregation.now }
 {
     match aggregation {

@@ -102,8 +102,8 @@ fn push_bucket(
     push_text(out, "\n")
 }
 
-// The sum that is told: none in OpenMetrics where a boundary is negative.
-fn sum_told(dialect: Dialect, boundaries: &[i64], sum: Option<i64>) -> Option<i64>
+/// The sum that is told: none in OpenMetrics where a boundary is negative.
+pub fn sum_told(dialect: Dialect, boundaries: &[i64], sum: Option<i64>) -> Option<i64>
     ensures { result ≡ sum_told dialect boundaries.now sum }
 {
     if dialect.is_open_metrics() && has_negative(boundaries) {

@@ -14,3 +14,4 @@ mod KeyTurns
 mod FirstFault
 pub mod PointsApart
 pub mod Renamed
+mod Gathered

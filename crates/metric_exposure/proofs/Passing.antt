@@ -1,8 +1,8 @@
 -- What a reader's streams have that pass the check for pages.
-use Rattle.std.proofs.Common.{◌≡◌, ◌≢◌, ℕ, zero, suc, ◌+◌, ◌<◌, Bool, true, false, cond, ◌&&◌, ◌||◌, List, [], ◌∷◌, ◌++◌, length, map, take, Option, Some, None, refl, sym, ap, subst, ◌∙◌, arith, ◌==◌, eq-eqb}
+use Rattle.std.proofs.Common.{◌≡◌, ◌≢◌, ◌⊎◌, inl, inr, ℕ, zero, suc, ◌+◌, ◌<◌, Bool, true, false, cond, ◌&&◌, ◌||◌, List, [], ◌∷◌, ◌++◌, length, map, take, Option, Some, None, refl, sym, ap, subst, ◌∙◌, arith, ◌==◌, eq-eqb}
 use Rattle.std.specs.Prelude.{slice_get}
 use Rattle.std.specs.List.{cons_option, filter_map, flat_map, list_all, position_from, range_with_len}
-use Rattle.std.specs.Option.{option_map, option_to_list}
+use Rattle.std.specs.Option.{option_map, option_map_or, option_to_list}
 use Rattle.std.specs.Str.{bytes_eq}
 use Rattle.std.proofs.lemmas.List.Folds.{list_all-append}
 use Rattle.std.proofs.lemmas.Option.{get_or_from_slice_get, slice_get_within}
@@ -22,10 +22,12 @@ use Rattle.metric_family.specs.Words.{is_among}
 use Rattle.metric_exposure.specs.declared.fault.ExposureFault.{ExposureFault}
 use Rattle.metric_exposure.specs.declared.fault.ExposureFault.TheVariants as faults
 use Rattle.metric_exposure.specs.declared.outlet.Outlet.TheVariants.{Prometheus}
-use Rattle.metric_exposure.specs.Collisions.{collision_by, first_claim, is_claimed, is_of_target, name_fault}
-use Rattle.metric_exposure.specs.Exposures.{boundary_faults, exposure_faults, fault_if, faults_at, keys_of, name_faults, page_faults, reserved_of}
+use Rattle.metric_exposure.specs.Collisions.{collision_by, first_claim, is_of_target, name_fault}
+use Rattle.metric_exposure.specs.Exposures.{boundary_faults, exposure_faults, fault_if, faults_at, name_faults, own_name_fault, page_faults, reserved_of}
+use Rattle.metric_exposure.specs.Sources.{keys_of}
 use Rattle.metric_exposure.specs.KeyFaults.{all_key_faults, are_confused, key_faults, label_fault, place_faults, taken_labels, value_fault}
-use Rattle.metric_exposure.specs.Laws.{FamiliesAreApart, LabelsAreSound, NamesAreSound, NoneClaimsTheTarget, Passes}
+use Rattle.metric_exposure.specs.Laws.{LabelsAreSound, NamesAreSound, Passes}
+use Rattle.metric_exposure.specs.Sharing.{are_shared, first_scoped, is_led_by, scope_fault, scoped}
 use Rattle.metric_exposure.proofs.Firsts.{faults_own}
 
 -- parts of a list without elements
@@ -56,9 +58,38 @@ not_put : (o : Option ExposureFault) (xs : List ExposureFault) → cons_option o
 not_put None xs e = refl
 not_put (Some fault) xs e = absurd cc
 
+-- a stream that stands under no other one's name
+pub record Unled (contents : Contents) (streams : List Stream) (reader number : ℕ) (stream : Stream) : Type 0 where
+  pub none : collision_by number (first_claim reader (take number streams)) (claims_of stream) ≡ None
+
+-- a stream that stands under the name of the first one that claims its family
+pub record Led (contents : Contents) (streams : List Stream) (reader number : ℕ) (stream : Stream) : Type 0 where
+  pub leader : ℕ
+  pub first : first_claim reader (take number streams) (family stream) ≡ Some leader
+  pub root : Stream
+  pub at : slice_get streams leader ≡ Some root
+  pub shared : are_shared contents root stream ≡ true
+  pub fresh : first_scoped contents reader (take number streams) (scoped contents stream) ≡ None
+
+no_scope : (number : ℕ) (o : Option ℕ) → scope_fault number o ≡ None → o ≡ None
+no_scope number None e = refl
+no_scope number (Some other) e = absurd cc
+
 -- the faults of a stream of a reader whose streams pass
 module _ (contents : Contents) (streams : List Stream) (reader number : ℕ) (stream : Stream) (p : Passes contents streams reader number stream) where
-  page_none : page_faults contents (first_claim reader (take number streams)) number stream ≡ []
+  abbrev firsts : List ℕ → Option ℕ
+  firsts = first_claim reader (take number streams)
+
+  abbrev scopes : List ℕ → Option ℕ
+  scopes = first_scoped contents reader (take number streams)
+
+  abbrev key_part : List ExposureFault
+  key_part = all_key_faults number (reserved_of contents stream) (keys_of contents stream) stream.kept
+
+  abbrev name_part : List ExposureFault
+  name_part = name_faults contents streams firsts scopes number stream
+
+  page_none : page_faults contents streams firsts scopes number stream ≡ []
   unfolding exposure_faults
   page_none =
       let within = slice_get_within streams number stream p.at in
@@ -68,29 +99,50 @@ module _ (contents : Contents) (streams : List Stream) (reader number : ℕ) (st
       sym (faults_own Prometheus contents streams reader number stream within is (eq-eqb stream.reader reader p.own))
       ∙ ap (faults_at Prometheus contents streams reader) here ∙ none
 
-  rest_none : name_faults (first_claim reader (take number streams)) number stream
-      ++ all_key_faults number (reserved_of contents stream) (keys_of contents stream) stream.kept ≡ []
+  rest_none : name_part ++ key_part ≡ []
   unfolding page_faults
   rest_none =
-      let rest = name_faults (first_claim reader (take number streams)) number stream ++ all_key_faults number (reserved_of contents stream) (keys_of contents stream) stream.kept in
-      back_none (boundary_faults number stream) rest (back_none (fault_if (is_delta_temporality stream.temporality) (faults.Delta number)) (boundary_faults number stream ++ rest) page_none)
+      back_none (boundary_faults number stream) (name_part ++ key_part)
+      (back_none (fault_if (is_delta_temporality stream.temporality) (faults.Delta number)) (boundary_faults number stream ++ (name_part ++ key_part)) page_none)
 
-  names_none : name_faults (first_claim reader (take number streams)) number stream ≡ []
-  names_none =
-      front_none (name_faults (first_claim reader (take number streams)) number stream) (all_key_faults number (reserved_of contents stream) (keys_of contents stream) stream.kept) rest_none
+  names_none : name_part ≡ []
+  names_none = front_none name_part key_part rest_none
 
-  keys_none : all_key_faults number (reserved_of contents stream) (keys_of contents stream) stream.kept ≡ []
-  keys_none = back_none (name_faults (first_claim reader (take number streams)) number stream) (all_key_faults number (reserved_of contents stream) (keys_of contents stream) stream.kept) rest_none
+  keys_none : key_part ≡ []
+  keys_none = back_none name_part key_part rest_none
 
   pub has_name : (length (family stream) == 0) ≡ false
   has_name =
       not_tested (length (family stream) == 0) (faults.Nameless number)
-      (front_none (fault_if (length (family stream) == 0) (faults.Nameless number)) (option_to_list (collision_by number (first_claim reader (take number streams)) (claims_of stream))) names_none)
+      (front_none (fault_if (length (family stream) == 0) (faults.Nameless number)) (option_to_list (own_name_fault contents streams firsts scopes number stream)) names_none)
 
-  no_collision : collision_by number (first_claim reader (take number streams)) (claims_of stream) ≡ None
-  no_collision =
-      let collision = collision_by number (first_claim reader (take number streams)) (claims_of stream) in
-      not_there collision (back_none (fault_if (length (family stream) == 0) (faults.Nameless number)) (option_to_list collision) names_none)
+  own_none : own_name_fault contents streams firsts scopes number stream ≡ None
+  own_none =
+      let own = own_name_fault contents streams firsts scopes number stream in
+      not_there own (back_none (fault_if (length (family stream) == 0) (faults.Nameless number)) (option_to_list own) names_none)
+
+  abbrev Stands : Type 0
+  Stands = Unled contents streams reader number stream ⊎ Led contents streams reader number stream
+
+  shares : (leader : ℕ) → firsts (family stream) ≡ Some leader → (root : Stream) → slice_get streams leader ≡ Some root → (b : Bool) → are_shared contents root stream ≡ b
+      → cond b (scope_fault number (scopes (scoped contents stream))) (collision_by number firsts (claims_of stream)) ≡ None → Stands
+  shares leader is root at true shared e =
+      inr (record { leader = leader; first = is; root = root; at = at; shared = shared; fresh = no_scope number (scopes (scoped contents stream)) e })
+  shares leader is root at false shared e = inl (record { none = e })
+
+  there : (leader : ℕ) → firsts (family stream) ≡ Some leader → (o : Option Stream) → slice_get streams leader ≡ o
+      → cond (option_map_or (λ (other : Stream). are_shared contents other stream) o false) (scope_fault number (scopes (scoped contents stream)))
+      (collision_by number firsts (claims_of stream)) ≡ None → Stands
+  there leader is None at e = inl (record { none = e })
+  there leader is (Some root) at e = shares leader is root at (are_shared contents root stream) refl e
+
+  by_first : (o : Option ℕ) → firsts (family stream) ≡ o
+      → cond (is_led_by contents streams stream o) (scope_fault number (scopes (scoped contents stream))) (collision_by number firsts (claims_of stream)) ≡ None → Stands
+  by_first None is e = inl (record { none = e })
+  by_first (Some leader) is e = there leader is (slice_get streams leader) refl e
+
+  pub stands : Stands
+  stands = by_first (firsts (family stream)) refl own_none
 
   no_fault_at : (place : ℕ) (key : Key) → slice_get (keys_of contents stream) place ≡ Some key → slice_get stream.kept place ≡ Some true
       → key_faults number place (taken_labels (reserved_of contents stream) (take place (keys_of contents stream)) (take place stream.kept)) key ≡ []
@@ -140,7 +192,7 @@ key_passes contents streams reader number stream p place key at kept =
     (not_taken number place taken (label_of key.name) label, not_confused number place key (not_put (value_fault number place key) [] behind))
 
 -- no fault of any name
-each_none : (f : List ℕ → Option ExposureFault) (names : List (List ℕ)) (name : List ℕ) → slice_get (filter_map f names) 0 ≡ None → is_among names name ≡ true → f name ≡ None
+pub each_none : (f : List ℕ → Option ExposureFault) (names : List (List ℕ)) (name : List ℕ) → slice_get (filter_map f names) 0 ≡ None → is_among names name ≡ true → f name ≡ None
 each_none f [] name e among = absurd cc
 each_none f (x ∷ names) name e among = by (f x) refl e (each_none f names name)
   where
@@ -154,14 +206,14 @@ each_none f (x ∷ names) name e among = by (f x) refl e (each_none f names name
     by (Some fault) is e later = absurd cc
     by None is e later = here (bytes_eq name x) refl among is e later
 
-not_of_target : (number : ℕ) (first : List ℕ → Option ℕ) (name : List ℕ) → name_fault number first name ≡ None → is_of_target name ≡ false
+pub not_of_target : (number : ℕ) (first : List ℕ → Option ℕ) (name : List ℕ) → name_fault number first name ≡ None → is_of_target name ≡ false
 not_of_target number first name e = by (is_of_target name) e
   where
     by : (b : Bool) → cond b (Some (faults.NameCollision number None)) (option_map (λ other. faults.NameCollision number (Some other)) (first name)) ≡ None → b ≡ false
     by true e = absurd cc
     by false e = refl
 
-not_claimed : (number : ℕ) (first : List ℕ → Option ℕ) (name : List ℕ) → name_fault number first name ≡ None → first name ≡ None
+pub not_claimed : (number : ℕ) (first : List ℕ → Option ℕ) (name : List ℕ) → name_fault number first name ≡ None → first name ≡ None
 not_claimed number first name e = by (is_of_target name) (first name) e
   where
     by : (b : Bool) (o : Option ℕ) → cond b (Some (faults.NameCollision number None)) (option_map (λ other. faults.NameCollision number (Some other)) o) ≡ None → o ≡ None
@@ -169,20 +221,7 @@ not_claimed number first name e = by (is_of_target name) (first name) e
     by false None e = refl
     by false (Some other) e = absurd cc
 
--- a name that a passing stream claims
-claimed_once : (contents : Contents) (streams : List Stream) (reader number : ℕ) (stream : Stream) (name : List ℕ) → Passes contents streams reader number stream
-    → is_among (claims_of stream) name ≡ true → name_fault number (first_claim reader (take number streams)) name ≡ None
-claimed_once contents streams reader number stream name p among =
-    each_none (name_fault number (first_claim reader (take number streams))) (claims_of stream) name (no_collision contents streams reader number stream p) among
-
-pub none_claims_the_target : NoneClaimsTheTarget
-none_claims_the_target contents streams reader number stream name p target = by (is_among (claims_of stream) name) refl
-  where
-    by : (b : Bool) → is_among (claims_of stream) name ≡ b → b ≡ false
-    by false e = refl
-    by true e = sym target ∙ not_of_target number (first_claim reader (take number streams)) name (claimed_once contents streams reader number stream name p e)
-
-none_passes : {X : Type 0} (test : X → Bool) (i : ℕ) (xs : List X) (k : ℕ) (x : X) → position_from test i xs ≡ None → slice_get xs k ≡ Some x → test x ≡ false
+pub none_passes : {X : Type 0} (test : X → Bool) (i : ℕ) (xs : List X) (k : ℕ) (x : X) → position_from test i xs ≡ None → slice_get xs k ≡ Some x → test x ≡ false
 none_passes test i [] k x e at = absurd cc
 none_passes test i (y ∷ ys) k x e at = by (test y) refl e k at (λ k. none_passes test (i + 1) ys k x)
   where
@@ -192,23 +231,11 @@ none_passes test i (y ∷ ys) k x e at = by (test y) refl e k at (λ k. none_pas
     by false is e zero at later = let same : y ≡ x = cc in ap test (sym same) ∙ is
     by false is e (suc k) at later = later k e at
 
-get_taken : {X : Type 0} (n : ℕ) (xs : List X) (k : ℕ) → k < n → slice_get (take n xs) k ≡ slice_get xs k
+pub get_taken : {X : Type 0} (n : ℕ) (xs : List X) (k : ℕ) → k < n → slice_get (take n xs) k ≡ slice_get xs k
 get_taken zero xs k less = absurd (omega arith)
 get_taken (suc n) [] k less = refl
 get_taken (suc n) (x ∷ xs) zero less = refl
 get_taken (suc n) (x ∷ xs) (suc k) less = get_taken n xs k (omega arith)
-
-pub families_are_apart : FamiliesAreApart
-unfolding first_claim
-families_are_apart contents streams reader number stream before other name p q less claimed = by (is_among (claims_of stream) name) refl
-  where
-    by : (b : Bool) → is_among (claims_of stream) name ≡ b → b ≡ false
-    by false e = refl
-    by true e =
-        let none = not_claimed number (first_claim reader (take number streams)) name (claimed_once contents streams reader number stream name p e) in
-        let fails = none_passes (is_claimed reader name) 0 (take number streams) before other none (get_taken number streams before less ∙ q.at) in
-        let own = eq-eqb other.reader reader q.own in
-        sym (ap (λ b. b && is_among (claims_of other) name) own ∙ claimed) ∙ fails
 
 -- a name with more of its characters is a name
 longer : (name more : List ℕ) → IsName name → list_all (λ d. is_label_character d || d == 58) more ≡ true → IsName (name ++ more)

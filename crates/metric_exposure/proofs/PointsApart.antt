@@ -25,7 +25,8 @@ use Rattle.metric_family.specs.declared.metric_type.MetricType.TheVariants.{Coun
 use Rattle.metric_family.specs.Families.{type_of}
 use Rattle.metric_family.specs.Labels.{Label, attribute_label, point_labels, scope_labels, shown}
 use Rattle.metric_family.specs.Words.{is_among, is_some}
-use Rattle.metric_exposure.specs.Exposures.{keys_of, meter_of, reserved_of}
+use Rattle.metric_exposure.specs.Exposures.{reserved_of}
+use Rattle.metric_exposure.specs.Sources.{keys_of, meter_of}
 use Rattle.metric_exposure.specs.KeyFaults.{reserved_labels, scope_taken, type_labels}
 use Rattle.metric_exposure.specs.Renames.{merged_labels, server_labels}
 use Rattle.metric_exposure.specs.Laws.{AreFull, Passes, PointsAreApart, SeriesAreApart, shown_of}

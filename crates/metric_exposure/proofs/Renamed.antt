@@ -21,7 +21,8 @@ use Rattle.metric_lines.specs.Keys.{attributes_of}
 use Rattle.metric_family.specs.Families.{type_of}
 use Rattle.metric_family.specs.Labels.{Label, attribute_label, label_of, point_labels, scope_labels, shown}
 use Rattle.metric_family.specs.Words.{is_among, is_some}
-use Rattle.metric_exposure.specs.Exposures.{keys_of, meter_of, reserved_of}
+use Rattle.metric_exposure.specs.Exposures.{reserved_of}
+use Rattle.metric_exposure.specs.Sources.{keys_of, meter_of}
 use Rattle.metric_exposure.specs.KeyFaults.{reserved_labels, scope_taken, type_labels}
 use Rattle.metric_exposure.specs.Laws.{AreFull, AreOne, Passes, PointsStayApart, held_by, text_at, texts_of}
 use Rattle.metric_exposure.specs.Renames.{exported, is_place, is_reached, is_shown_as, kept_key, key_as, may_lack, merged_labels, server_labels, takes}
@@ -237,7 +238,7 @@ text_none (label ∷ labels) name e =
     ap (λ b. cond (b && is_some label.1) label.1 (text_at labels name)) (not_same name label.0 (or_first (bytes_eq name label.0) _ e))
     ∙ text_none labels name (or_second (bytes_eq name label.0) _ e)
 
-text_shown : (labels : List Label) (name : List ℕ) → text_at (shown labels) name ≡ text_at labels name
+pub text_shown : (labels : List Label) (name : List ℕ) → text_at (shown labels) name ≡ text_at labels name
 text_shown [] name = refl
 text_shown (label ∷ labels) name = by (is_some label.1) refl (text_shown labels name)
   where
@@ -253,7 +254,7 @@ text_shown (label ∷ labels) name = by (is_some label.1) refl (text_shown label
         none false = refl
 
 -- No label of a scope is one of a server.
-scope_free : (meter : Meter) (own : List ℕ) (n : ℕ) → is_among server_labels own ≡ true → text_at (shown (scope_labels meter)) (exported n own) ≡ []
+pub scope_free : (meter : Meter) (own : List ℕ) (n : ℕ) → is_among server_labels own ≡ true → text_at (shown (scope_labels meter)) (exported n own) ≡ []
 scope_free meter own n among = text_shown (scope_labels meter) (exported n own) ∙ by n (bytes_eq own (codes "job")) refl (bytes_eq own (codes "instance")) refl among
   where
     by : (n : ℕ) → (b : Bool) → bytes_eq own (codes "job") ≡ b → (d : Bool) → bytes_eq own (codes "instance") ≡ d → (b || (d || false)) ≡ true → text_at (scope_labels meter) (exported n own) ≡ []

@@ -20,7 +20,8 @@ use Rattle.metric_facts.specs.Facts.{is_entry, is_full_set, key_facts}
 use Rattle.metric_lines.specs.Keys.{attributes_of, kept_names, value_at}
 use Rattle.metric_family.specs.Labels.{Label, attribute_label, label_of, point_labels, scope_labels, shown}
 use Rattle.metric_family.specs.Words.{is_among, is_some}
-use Rattle.metric_exposure.specs.Exposures.{keys_of, reserved_of}
+use Rattle.metric_exposure.specs.Exposures.{reserved_of}
+use Rattle.metric_exposure.specs.Sources.{keys_of}
 use Rattle.metric_exposure.specs.KeyFaults.{are_confused}
 use Rattle.metric_exposure.specs.KeyTexts.{is_empty_text, text_value, texts_of}
 use Rattle.metric_exposure.specs.Laws.{SeriesAreApart}

@@ -16,17 +16,19 @@ use Rattle.metric_facts.specs.Facts.{is_full_set, key_facts}
 use Rattle.metric_history.specs.declared.batch.Point.{Point}
 use Rattle.metric_history.specs.declared.entry.Entry.{Entry}
 use Rattle.metric_history.specs.Points.{points}
-use Rattle.metric_family.specs.Families.{claims_of, family}
+use Rattle.metric_family.specs.Families.{claims_of, family, type_of, unit_text}
 use Rattle.metric_family.specs.Grammar.{IsLabel, IsName}
 use Rattle.metric_family.specs.Labels.{Label, label_of, point_labels, shown}
 use Rattle.metric_family.specs.Words.{is_among, is_some}
 use Rattle.metric_exposure.specs.declared.outlet.Outlet.TheVariants.{Prometheus}
 use Rattle.metric_exposure.specs.Collisions.{is_of_target}
-use Rattle.metric_exposure.specs.Exposures.{exposure_faults, keys_of, meter_of}
+use Rattle.metric_exposure.specs.Exposures.{exposure_faults}
+use Rattle.metric_exposure.specs.Sources.{boundaries_of, keys_of, meter_of}
 use Rattle.metric_exposure.specs.Renames.{exported, server_labels}
 
 -- # streams that pass (profile) [Passes, NamesAreSound, LabelsAreSound, FamiliesAreApart,
--- NoneClaimsTheTarget, SeriesAreApart, PointsAreApart, PointsStayApart]
+-- NoneClaimsTheTarget, SeriesAreApart, PointsAreApart, PointsStayApart, GatheredAreApart,
+-- GatheredStayApart]
 -- What holds of a reader's streams without a fault: sound names and labels, families and series
 -- that are apart.
 pub record Passes (contents : Contents) (streams : List Stream) (reader number : ℕ)
@@ -51,14 +53,21 @@ LabelsAreSound =
     → slice_get (keys_of contents stream) place ≡ Some key
     → slice_get stream.kept place ≡ Some true → IsLabel (label_of key.name)
 
--- No two streams claim one name, and none claims one of the target's.
+-- A page tells one family, type and unit of both, and the same buckets.
+pub record AreOneFamily (other stream : Stream) : Type 0 where
+  pub family_is : family other ≡ family stream
+  pub type_is : type_of other ≡ type_of stream
+  pub unit_is : unit_text other ≡ unit_text stream
+  pub boundaries_are : boundaries_of other.aggregation ≡ boundaries_of stream.aggregation
+
+-- Two streams claim one name only where they are of one family, and none claims one of the target's.
 abbrev pub FamiliesAreApart : Type 0
 FamiliesAreApart =
     (contents : Contents) (streams : List Stream) (reader number : ℕ) (stream : Stream)
     (before : ℕ) (other : Stream) (name : List ℕ)
     → Passes contents streams reader number stream → Passes contents streams reader before other
     → before < number → is_among (claims_of other) name ≡ true
-    → is_among (claims_of stream) name ≡ false
+    → is_among (claims_of stream) name ≡ true → AreOneFamily other stream
 
 abbrev pub NoneClaimsTheTarget : Type 0
 NoneClaimsTheTarget =
@@ -150,6 +159,33 @@ PointsStayApart =
     → slice_get (points stream window) later ≡ Some other
     → AreOne (shown_point contents stream meter point) (shown_point contents stream meter other)
     → ⊥
+
+-- Two streams that claim one name, with their meters.
+pub record AreGathered (contents : Contents) (streams : List Stream) (reader number : ℕ)
+    (stream : Stream) (before : ℕ) (other : Stream) (meter own : Meter) : Type 0 where
+  pub passes : Passes contents streams reader number stream
+  pub passed : Passes contents streams reader before other
+  pub less : before < number
+  pub name : List ℕ
+  pub claimed : is_among (claims_of other) name ≡ true
+  pub claims : is_among (claims_of stream) name ≡ true
+  pub meter_is : meter_of contents other ≡ Some meter
+  pub own_is : meter_of contents stream ≡ Some own
+
+-- No points of such streams are shown with the same labels, and none are one series of a server.
+abbrev pub GatheredAreApart : Type 0
+GatheredAreApart =
+    (contents : Contents) (streams : List Stream) (reader number : ℕ) (stream : Stream)
+    (before : ℕ) (other : Stream) (meter own : Meter) (point its : Point)
+    → AreGathered contents streams reader number stream before other meter own
+    → shown_point contents other meter point ≢ shown_point contents stream own its
+
+abbrev pub GatheredStayApart : Type 0
+GatheredStayApart =
+    (contents : Contents) (streams : List Stream) (reader number : ℕ) (stream : Stream)
+    (before : ℕ) (other : Stream) (meter own : Meter) (point its : Point)
+    → AreGathered contents streams reader number stream before other meter own
+    → AreOne (shown_point contents other meter point) (shown_point contents stream own its) → ⊥
 
 -- the sums of the first counts, of one more each time
 abbrev pub running : ℕ → List ℕ → List ℕ

@@ -1,4 +1,6 @@
+pub mod Sources
 pub mod Collisions
+pub mod Sharing
 pub mod KeyTexts
 pub mod Renames
 pub mod KeyFaults

@@ -1,4 +1,5 @@
 //! What holds of streams that pass the check, as laws of the definitions.
+ghost use Rattle.metric_exposure.specs.Laws.{GatheredAreApart, GatheredStayApart};
 ghost use Rattle.metric_exposure.specs.Laws.{FamiliesAreApart, LabelsAreSound, NamesAreSound, NoneClaimsTheTarget, PointsAreApart, PointsStayApart};
 ghost use Rattle.metric_exposure.specs.Laws.{ReportedBucketsRise, SeriesAreApart};
 
@@ -15,8 +16,8 @@ pub fn names_and_labels_are_sound()
     labels_are_labels();
 }
 
-/// Where a reader's streams pass for pages, no two of them claim one name, and none claims one of the target's. Does
-/// nothing.
+/// Where a reader's streams pass for pages, two of them claim one name only where they have one family, type, unit and
+/// boundaries, and none claims one of the target's. Does nothing.
 pub fn families_are_apart()
     ensures streams { FamiliesAreApart }
     ensures target { NoneClaimsTheTarget }
@@ -45,6 +46,13 @@ pub fn points_stay_apart()
 {
     recordings_are_counted_once();
 }
+
+/// Where a reader's streams pass for pages, no points of two that claim one name are shown with the same labels, nor
+/// are they one series at a server: their scopes tell them apart. Does nothing.
+pub fn gathered_points_are_apart()
+    ensures shown { GatheredAreApart }
+    ensures held { GatheredStayApart }
+{}
 
 /// The buckets of each point that is reported of recordings rise up to the point's count. Does nothing.
 pub fn buckets_rise_to_the_count()

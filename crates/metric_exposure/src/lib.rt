@@ -9,12 +9,14 @@ mod keys;
 mod laws;
 mod outlet;
 mod renames;
+mod sharing;
+mod sources;
 mod streams;
 
 pub use exposures::{expose, expose_to_otlp, exposure_faults};
 pub use fault::ExposureFault;
 pub use laws::{
-    buckets_rise_to_the_count, families_are_apart, names_and_labels_are_sound, points_are_apart,
-    points_stay_apart, series_are_apart,
+    buckets_rise_to_the_count, families_are_apart, gathered_points_are_apart,
+    names_and_labels_are_sound, points_are_apart, points_stay_apart, series_are_apart,
 };
 pub use outlet::Outlet;

@@ -2,28 +2,40 @@
 ghost use Rattle.std.specs.Prelude.{◌≡◌, ◌++◌, ◌==◌, ◌&&◌, [], ℕ, List, Some, None, IfOk, OnOk, if◌then◌else◌};
 ghost use Rattle.std.specs.BTreeMap.{get_by_text};
 ghost use Rattle.std.specs.List.{list_any};
-ghost use Rattle.std.specs.Option.{option_map};
+ghost use Rattle.std.specs.Str.{bytes_eq};
 ghost use Rattle.metric_contents.specs.PlaceLaws.{or_else};
 ghost use Rattle.metric_family.specs.Families.{claims_of};
 ghost use Rattle.metric_family.specs.Words.{is_among};
 ghost use Rattle.metric_exposure.specs.declared.outlet.Outlet.TheVariants.{Otlp, Prometheus};
 ghost use Rattle.metric_exposure.specs.Collisions.{is_claimed};
-ghost use Rattle.metric_exposure.specs.Exposures.{boundaries_of, boundary_faults, exposure_faults, first_of, is_inexact, keys_of, meter_of};
+ghost use Rattle.metric_exposure.specs.Exposures.{boundary_faults, exposure_faults, first_of, is_inexact};
 ghost use Rattle.metric_exposure.specs.Exposures.{name_faults, page_faults, reserved_of};
+ghost use Rattle.metric_exposure.specs.Sharing.{is_scoped, scope_fault, scoped};
+ghost use Rattle.metric_exposure.specs.Sources.{boundaries_of};
 
-use crate::collisions::{Claims, add_claims, collision_of};
+use crate::collisions::{Claims, add_claims, add_name, collision_of};
 use crate::fault::ExposureFault;
 use crate::keys::{add_key_faults, reserved_labels};
+use crate::sharing::{is_led, scoped};
+use crate::sources::{boundaries_of, keys_of, meter_of};
 use metric_base::Text;
 use metric_catalogue::Catalogue;
-use metric_contents::{Key, Meter};
 use metric_family::{MetricType, family_of};
-use metric_views::{Stream, StreamAggregation, Temporality};
+use metric_views::{Stream, Temporality};
 use std::alloc::{AllocError, Global};
 use std::collections::BTreeMap;
 
 // The greatest whole number up to which each is a double.
 const EXACT: u64 = 1 << 53;
+
+/// The first stream that claims each name, and each scope in a family.
+#[derive(Drop)]
+pub(crate) struct Taken {
+    /// Of each name.
+    pub names: Claims,
+    /// Of each family with the texts of a scope.
+    pub scopes: Claims,
+}
 
 /// Puts the faults of a reader's streams for pages last.
 pub(crate) fn add_page_faults(
@@ -36,16 +48,13 @@ pub(crate) fn add_page_faults(
     ensures { OnOk result (faults.new.items ≡ faults.old.items
         ++ exposure_faults Prometheus catalogue.now streams.now reader) }
 {
-    let mut claims: Claims = BTreeMap::new(alloc);
+    let mut taken = Taken {
+        names: BTreeMap::new(alloc),
+        scopes: BTreeMap::new(alloc),
+    };
     for (number, stream) in streams.iter().enumerate() {
         add_faults_for(
-            alloc,
-            faults,
-            &mut claims,
-            catalogue,
-            reader,
-            number,
-            stream,
+            alloc, faults, &mut taken, catalogue, streams, reader, number, stream,
         )?;
     }
     Ok(())
@@ -56,23 +65,28 @@ pub(crate) fn add_page_faults(
 fn add_faults_for(
     alloc: Global,
     faults: &mut Vec<ExposureFault>,
-    claims: &mut Claims,
+    taken: &mut Taken,
     catalogue: &Catalogue,
+    streams: &[Stream],
     reader: u32,
     number: usize,
     stream: &Stream,
 ) -> Result<(), AllocError>
     ensures faults { OnOk result (faults.new.items ≡ faults.old.items
         ++ (if stream.now.reader == reader
-        then page_faults catalogue.now (get_by_text claims.old) number stream.now else [])) }
-    ensures claims { OnOk result ((name : List ℕ) → get_by_text claims.new name
-        ≡ or_else (get_by_text claims.old name)
+        then page_faults catalogue.now streams.now (get_by_text taken.old.names)
+        (get_by_text taken.old.scopes) number stream.now else [])) }
+    ensures names { OnOk result ((name : List ℕ) → get_by_text taken.new.names name
+        ≡ or_else (get_by_text taken.old.names name)
         (if is_claimed reader name stream.now then Some number else None)) }
+    ensures scopes { OnOk result ((name : List ℕ) → get_by_text taken.new.scopes name
+        ≡ or_else (get_by_text taken.old.scopes name)
+        (if is_scoped catalogue.now reader name stream.now then Some number else None)) }
 {
     if stream.reader != reader {
         return Ok(());
     }
-    add_stream_faults(alloc, faults, claims, catalogue, number, stream)
+    add_stream_faults(alloc, faults, taken, catalogue, streams, number, stream)
 }
 
 // Puts the faults of a stream for pages last, and keeps what it claims.
@@ -80,22 +94,27 @@ fn add_faults_for(
 fn add_stream_faults(
     alloc: Global,
     faults: &mut Vec<ExposureFault>,
-    claims: &mut Claims,
+    taken: &mut Taken,
     catalogue: &Catalogue,
+    streams: &[Stream],
     number: usize,
     stream: &Stream,
 ) -> Result<(), AllocError>
     ensures faults { OnOk result (faults.new.items ≡ faults.old.items
-        ++ page_faults catalogue.now (get_by_text claims.old) number stream.now) }
-    ensures claims { OnOk result ((name : List ℕ) → get_by_text claims.new name
-        ≡ or_else (get_by_text claims.old name)
+        ++ page_faults catalogue.now streams.now (get_by_text taken.old.names)
+        (get_by_text taken.old.scopes) number stream.now) }
+    ensures names { OnOk result ((name : List ℕ) → get_by_text taken.new.names name
+        ≡ or_else (get_by_text taken.old.names name)
         (if is_among (claims_of stream.now) name then Some number else None)) }
+    ensures scopes { OnOk result ((name : List ℕ) → get_by_text taken.new.scopes name
+        ≡ or_else (get_by_text taken.old.scopes name)
+        (if bytes_eq name (scoped catalogue.now stream.now) then Some number else None)) }
 {
     if stream.temporality == Temporality::Delta {
         faults.push(ExposureFault::Delta { stream: number })?;
     }
     add_boundary_fault(faults, number, stream)?;
-    add_name_faults(alloc, faults, claims, number, stream)?;
+    add_name_faults(alloc, faults, taken, catalogue, streams, number, stream)?;
     let labels = reserved_of(alloc, catalogue, stream)?;
     let keys = keys_of(catalogue, stream);
     add_key_faults(
@@ -123,48 +142,55 @@ fn reserved_of(
     reserved_labels(alloc, kind, meter, keys, stream.kept.get().as_slice())
 }
 
-// The meter of a stream's instrument.
-fn meter_of<'a>(catalogue: &'a Catalogue, stream: &Stream) -> Option<&'a Meter>
-    ensures { option_map (λ m. m.now) result ≡ meter_of catalogue.now stream.now }
-{
-    let instrument = catalogue.instruments().get(stream.instrument as usize)?;
-    catalogue.meters().get(instrument.meter as usize)
-}
-
-// The keys of a stream's instrument.
-fn keys_of<'a>(catalogue: &'a Catalogue, stream: &Stream) -> &'a [Key]
-    ensures { result.now ≡ keys_of catalogue.now stream.now }
-{
-    match catalogue.instruments().get(stream.instrument as usize) {
-        None => &[],
-        Some(instrument) => instrument.keys.as_slice(),
-    }
-}
-
 // Puts the faults of a stream's names last, and keeps what it claims.
 #[tactic(auto, unfolding(metric_family::specs::Families::claims_of))]
 fn add_name_faults(
     alloc: Global,
     faults: &mut Vec<ExposureFault>,
-    claims: &mut Claims,
+    taken: &mut Taken,
+    catalogue: &Catalogue,
+    streams: &[Stream],
     number: usize,
     stream: &Stream,
 ) -> Result<(), AllocError>
     ensures faults { OnOk result (faults.new.items ≡ faults.old.items
-        ++ name_faults (get_by_text claims.old) number stream.now) }
-    ensures claims { OnOk result ((name : List ℕ) → get_by_text claims.new name
-        ≡ or_else (get_by_text claims.old name)
+        ++ name_faults catalogue.now streams.now (get_by_text taken.old.names)
+        (get_by_text taken.old.scopes) number stream.now) }
+    ensures names { OnOk result ((name : List ℕ) → get_by_text taken.new.names name
+        ≡ or_else (get_by_text taken.old.names name)
         (if is_among (claims_of stream.now) name then Some number else None)) }
+    ensures scopes { OnOk result ((name : List ℕ) → get_by_text taken.new.scopes name
+        ≡ or_else (get_by_text taken.old.scopes name)
+        (if bytes_eq name (scoped catalogue.now stream.now) then Some number else None)) }
 {
-    let family = family_of(alloc, stream)?;
+    let text = family_of(alloc, stream)?;
+    let family = text.as_str();
     let kind = MetricType::of(stream);
-    if family.as_str().is_empty() {
+    if family.is_empty() {
         faults.push(ExposureFault::Nameless { stream: number })?;
     }
-    if let Some(fault) = collision_of(alloc, claims, number, family.as_str(), kind)? {
+    let scope = scoped(alloc, catalogue, stream, family)?;
+    let found = if is_led(alloc, &taken.names, catalogue, streams, stream, family)? {
+        scope_fault(&taken.scopes, number, scope.as_str())
+    } else {
+        collision_of(alloc, &taken.names, number, family, kind)?
+    };
+    if let Some(fault) = found {
         faults.push(fault)?;
     }
-    add_claims(alloc, claims, number, family.as_str(), kind)
+    add_name(&mut taken.scopes, scope, number)?;
+    add_claims(alloc, &mut taken.names, number, family, kind)
+}
+
+// The fault of a scope that an earlier stream of its family has.
+fn scope_fault(scopes: &Claims, number: usize, scope: &str) -> Option<ExposureFault>
+    ensures { result ≡ scope_fault number (get_by_text scopes.now scope.now) }
+{
+    let other = scopes.get(scope).copied()?;
+    Some(ExposureFault::NameCollision {
+        stream: number,
+        with: Some(other),
+    })
 }
 
 // Puts the fault of a boundary beyond 2^53 last, where the stream has one.
@@ -186,14 +212,9 @@ fn add_boundary_fault(
 fn has_inexact_boundary(stream: &Stream) -> bool
     ensures { result ≡ list_any is_inexact (boundaries_of stream.now.aggregation) }
 {
-    match &stream.aggregation {
-        StreamAggregation::Histogram(boundaries) => boundaries
-            .get()
-            .as_slice()
-            .iter()
-            .any(|boundary| boundary.unsigned_abs() > EXACT),
-        _ => false,
-    }
+    boundaries_of(&stream.aggregation)
+        .iter()
+        .any(|boundary| boundary.unsigned_abs() > EXACT)
 }
 
 /// Puts the faults of a reader's streams for requests of OTLP last.

@@ -12,7 +12,7 @@ use Rattle.metric_kit_commands.specs.Pages.{AreLast, Keeps, KeepsLast, batch_of,
 are_last_batches : (reader count : ℕ) (last : List (Option Batch)) (replies : List Reply) → AreLast reader count last replies → last ≡ last_batches reader count replies
 are_last_batches reader count last replies known = fill_by_all (λ (instrument : ℕ). last_batch reader instrument replies) last count None known.len known.each
 
-pub last_is_page : (encode : PlanValue → Batch → List ℕ) (reader : ℕ) (head tail : List ℕ) (plan : PlanValue) (replies : List Reply) (last : List (Option Batch))
+pub last_is_page : (encode : PlanValue → List (Option Batch) → List ℕ) (reader : ℕ) (head tail : List ℕ) (plan : PlanValue) (replies : List Reply) (last : List (Option Batch))
     → AreLast reader (length plan.facts.contents.instruments) last replies → page_of_last encode head tail plan last ≡ page_text encode reader head tail plan replies
 last_is_page encode reader head tail plan replies last known =
     ap (page_of_last encode head tail plan) (are_last_batches reader (length plan.facts.contents.instruments) last replies known)

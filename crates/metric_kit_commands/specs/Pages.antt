@@ -1,8 +1,7 @@
 -- The page that a replay writes.
 use Rattle.std.specs.Prelude.{◌≡◌, ◌<◌, ◌==◌, ◌&&◌, ◌++◌, ℕ, List, [], ◌∷◌, Option, Some, None}
 use Rattle.std.specs.Prelude.{get_or, if◌then◌else◌, length, map}
-use Rattle.std.specs.List.{filter_map, flat_map, last_or, range_with_len}
-use Rattle.std.specs.Option.{option_map_or}
+use Rattle.std.specs.List.{filter_map, last_or, range_with_len}
 use Rattle.metric_plan.specs.Plans.{PlanValue}
 use Rattle.metric_history.specs.declared.batch.Batch.{Batch}
 use Rattle.metric_history.specs.declared.event.Reply.{Reply}
@@ -21,30 +20,26 @@ batch_of reader instrument _ = None
 abbrev pub last_batch : ℕ → ℕ → List Reply → Option Batch
 last_batch reader instrument replies = last_or None (filter_map (batch_of reader instrument) replies)
 
--- a batch in an encoding, nothing where there is none
-abbrev pub lines_of_batch : (Batch → List ℕ) → Option Batch → List ℕ
-lines_of_batch encode batch = option_map_or encode batch []
-
 -- the last batches of all instruments, in the order of the catalogue
 abbrev pub last_batches : ℕ → ℕ → List Reply → List (Option Batch)
 last_batches reader count replies =
     map (λ instrument. last_batch reader instrument replies) (range_with_len 0 count)
 
--- a page of batches: what it begins with, each in an encoding, and its end
-abbrev pub page_of_last : (PlanValue → Batch → List ℕ) → List ℕ → List ℕ → PlanValue
+-- a page of batches: what it begins with, these in an encoding, and its end
+abbrev pub page_of_last : (PlanValue → List (Option Batch) → List ℕ) → List ℕ → List ℕ → PlanValue
     → List (Option Batch) → List ℕ
 page_of_last encode head tail plan batches =
-    head ++ flat_map (lines_of_batch (encode plan)) batches ++ tail
+    head ++ encode plan batches ++ tail
 
 -- # page of a replay (profile) [page_text, IsPage, last_batch]
 -- What it begins with, the last batch of the reader of each instrument in an encoding, and its end.
 abbrev pub page_text
-    : (PlanValue → Batch → List ℕ) → ℕ → List ℕ → List ℕ → PlanValue → List Reply → List ℕ
+    : (PlanValue → List (Option Batch) → List ℕ) → ℕ → List ℕ → List ℕ → PlanValue → List Reply → List ℕ
 page_text encode reader head tail plan replies = page_of_last encode head tail plan
     (last_batches reader (length plan.facts.contents.instruments) replies)
 
 -- The page of the replies to the script of parts.
-pub record IsPage (encode : PlanValue → Batch → List ℕ) (reader : ℕ) (head tail : List ℕ)
+pub record IsPage (encode : PlanValue → List (Option Batch) → List ℕ) (reader : ℕ) (head tail : List ℕ)
     (options : ReplayOptions) (read : Parts) (bytes : List ℕ) : Type 0 where
   pub plan : PlanValue
   pub replies : List Reply

@@ -30,7 +30,7 @@ pub use fault::KitFault;
 pub use laws::one_output;
 pub use makes::{certificate_text, make_run};
 pub use options::ReplayOptions;
-pub use page_replays::{PageForm, replay_page};
+pub use page_replays::{PageEncoding, PageForm, replay_page};
 pub use parts::{PartWriter, write_parts, write_text};
 pub use planning::{Declared, certified_plan, declared_of};
 pub use replays::{replay, replay_encoded, replay_parts};

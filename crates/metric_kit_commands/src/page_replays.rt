@@ -1,9 +1,8 @@
 //! A script replayed, of which the last batches of a reader are written, as a page has them.
-ghost use Rattle.std.specs.Prelude.{◌≡◌, ◌++◌, [], false, IfErr, IfOk, IsSome, OnOk};
-ghost use Rattle.std.specs.List.{flat_map};
+ghost use Rattle.std.specs.Prelude.{◌≡◌, ◌++◌, [], ℕ, List, Option, false, IfErr, IfOk, IsSome, OnOk};
 ghost use Rattle.metric_kit_commands.specs.Commands.{HasNeeded, RunsParts, sink_run};
 ghost use Rattle.metric_kit_commands.specs.Faults.{IsOfInput};
-ghost use Rattle.metric_kit_commands.specs.Pages.{AreLast, IsPage, IsPageRun, Keeps, KeepsLast, lines_of_batch, page_of_last};
+ghost use Rattle.metric_kit_commands.specs.Pages.{AreLast, IsPage, IsPageRun, Keeps, KeepsLast, page_of_last};
 ghost use Rattle.metric_kit_commands.specs.Replaying.{IsReplayFault, needs_of, plain_options};
 
 use crate::command::{Command, run_parts};
@@ -14,13 +13,32 @@ use crate::prepared::{PreparedRun, event_lines, prepared_run};
 use crate::replays::plain_options;
 use crate::tally::{Tally, tally_run};
 use metric_core::Core;
-use metric_export::Encoding;
 use metric_history::{Batch, Reply};
 use metric_io::Sink;
 use metric_marked::Marked;
 use metric_parts::{Needs, Parts};
 use metric_plan::Plan;
 use std::alloc::{AllocError, Global};
+
+/// How the batches of a page are written.
+pub trait PageEncoding {
+    ghost use Rattle.metric_plan.specs.Plans.{PlanValue};
+    ghost use Rattle.metric_history.specs.declared.batch.Batch.{Batch as BatchValue};
+
+    // What they are, by the plan and the batch of each instrument.
+    ghost text: { Self → PlanValue → List (Option BatchValue) → List ℕ };
+
+    /// Writes them. Fails only when out of memory, and may then have written a part.
+    fn push_page(
+        &self,
+        alloc: Global,
+        out: &mut Vec<u8>,
+        plan: &Plan,
+        batches: &[Option<Batch>],
+    ) -> Result<(), AllocError>
+        ensures { OnOk result (out.new.items
+            ≡ out.old.items ++ text self.now plan.now batches.now) };
+}
 
 /// What a page is made of.
 #[derive(Clone, Copy)]
@@ -29,20 +47,20 @@ pub struct PageForm<'a, E> {
     pub head: &'a [u8],
     /// The reader whose batches it has.
     pub reader: u32,
-    /// What each batch is in it.
+    /// What the batches are in it.
     pub encoding: &'a E,
     /// What it ends with.
     pub tail: &'a [u8],
 }
 
 /// [`replay_parts`](crate::replay_parts) without an audit, which writes one page: what it begins with, the last batch
-/// that the reader collected of each instrument in the order of the catalogue, each in an encoding, and what it ends
-/// with. Memory holds these batches and a few replies.
+/// that the reader collected of each instrument in the order of the catalogue, all of them in one encoding, and what it
+/// ends with. Memory holds these batches and a few replies.
 ///
 /// # Errors
 ///
 /// Those of [`replay_parts`](crate::replay_parts).
-pub fn replay_page<E: Encoding, W: Sink>(
+pub fn replay_page<E: PageEncoding, W: Sink>(
     alloc: Global,
     trial: bool,
     form: &PageForm<'_, E>,
@@ -153,7 +171,7 @@ fn page_run(
 }
 
 // The page of the last batches of a reader.
-fn page_of<E: Encoding>(
+fn page_of<E: PageEncoding>(
     alloc: Global,
     form: &PageForm<'_, E>,
     plan: &Plan,
@@ -164,46 +182,12 @@ fn page_of<E: Encoding>(
 {
     let mut text = Vec::new(alloc);
     text.extend_from_slice(form.head)?;
-    push_batches(alloc, &mut text, form.encoding, plan, batches)?;
+    form.encoding.push_page(alloc, &mut text, plan, batches)?;
     text.extend_from_slice(form.tail)?;
     Ok(text)
 }
 
-// Puts each batch last.
-fn push_batches<E: Encoding>(
-    alloc: Global,
-    out: &mut Vec<u8>,
-    encoding: &E,
-    plan: &Plan,
-    batches: &[Option<Batch>],
-) -> Result<(), AllocError>
-    ensures { OnOk result (out.new.items ≡ out.old.items
-        ++ flat_map (lines_of_batch (E.text encoding.now plan.now)) batches.now) }
-{
-    for batch in batches {
-        push_batch(alloc, out, encoding, plan, batch)?;
-    }
-    Ok(())
-}
-
-// Puts a batch last, where there is one.
-fn push_batch<E: Encoding>(
-    alloc: Global,
-    out: &mut Vec<u8>,
-    encoding: &E,
-    plan: &Plan,
-    batch: &Option<Batch>,
-) -> Result<(), AllocError>
-    ensures { OnOk result (out.new.items ≡ out.old.items
-        ++ lines_of_batch (E.text encoding.now plan.now) batch.now) }
-{
-    match batch {
-        Some(batch) => encoding.push(alloc, out, plan, batch),
-        None => Ok(()),
-    }
-}
-
-impl<E: Encoding> Command for PageReplay<'_, E> {
+impl<E: PageEncoding> Command for PageReplay<'_, E> {
     ghost use Rattle.std.proofs.Common.{inl};
     ghost use Rattle.metric_kit_commands.specs.PageLaws.{last_is_page};
     ghost use Rattle.metric_kit_commands.specs.Pages.{IsPage as IsPageOf, IsPageRun as IsRunOf, page_of_last as text_of_last};

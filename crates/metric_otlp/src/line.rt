@@ -216,7 +216,8 @@ fn push_more_metrics(
 
 #[tactic(auto, unfolding(crate::specs::Lines::metric_json))]
 fn push_metric(alloc: Global, out: &mut Vec<u8>, reported: &Reported<'_>) -> Result<(), AllocError>
-    ensures { OnOk result (out.new.items ≡ out.old.items ++ metric_json (reported_by reported.now)) }
+    ensures { OnOk result
+        (out.new.items ≡ out.old.items ++ metric_json (reported_by reported.now)) }
 {
     let stream = reported.stream;
     let mut data = Vec::new(alloc);

@@ -66,7 +66,8 @@ fn push_metrics(
 // Writes a message `Metric`.
 #[tactic(auto, unfolding(crate::specs::Metrics::metric_message), using(crate::proofs::RowLaws::head_and_data))]
 fn push_metric(alloc: Global, out: &mut Vec<u8>, reported: &Reported<'_>) -> Result<(), AllocError>
-    ensures { OnOk result (out.new.items ≡ out.old.items ++ metric_field (reported_by reported.now)) }
+    ensures { OnOk result
+        (out.new.items ≡ out.old.items ++ metric_field (reported_by reported.now)) }
 {
     let mut data = Vec::new(alloc);
     push_data(alloc, &mut data, reported)?;

@@ -11,8 +11,9 @@ use Rattle.metric_export.specs.declared.fault.ExportFault.{ExportFault}
 use Rattle.metric_export.specs.declared.fault.ExportFault.TheVariants as fault
 use Rattle.metric_export.specs.declared.state.ExporterState.{ExporterState}
 use Rattle.metric_export.specs.declared.state.ExporterState.TheVariants.{Open, ShutDown}
-use Rattle.metric_exposition.specs.Expositions.{exposition}
 use Rattle.metric_exposition.specs.Pages.{end_text}
+use Rattle.metric_exposition.specs.Sections.{batch_sections, gathered}
+use Rattle.metric_exposition.specs.declared.section.Section.{Section}
 use Rattle.metric_exposition.specs.declared.dialect.Dialect.{Dialect}
 use Rattle.metric_outlets.specs.Served.{is_served}
 use Rattle.metric_outlets.specs.declared.served.Served.{Served}
@@ -23,15 +24,16 @@ pub record PageExporterValue (P : Type 0) : Type 0 where
   pub served : Served
   pub dialect : Dialect
   pub target : List ℕ
-  pub lines : List (List ℕ)
+  pub lines : List (List Section)
   pub pages : P
   pub failures : ℕ
   pub state : ExporterState
 
 -- # page of an exporter (profile)
--- What it begins with, the last lines of each instrument in order, and the end.
+-- What it begins with, the last lines of each instrument in order, those of one family together, and
+-- the end.
 abbrev pub page_of : {P : Type 0} → PageExporterValue P → List ℕ
-page_of e = e.target ++ flat_map (λ lines. lines) e.lines ++ end_text e.dialect
+page_of e = e.target ++ gathered (flat_map (λ lines. lines) e.lines) ++ end_text e.dialect
 
 -- the lines of a batch are kept, in place of those of its instrument; no page is replaced yet, and a
 -- batch that it refused it does not say to keep
@@ -40,7 +42,7 @@ abbrev pub KeepsLines : {P : Type 0} → PageExporterValue P → PageExporterVal
 KeepsLines old new plan batch (Ok done) =
     new ≡ record old {
       lines = slice_set old.lines batch.instrument
-          (exposition old.dialect plan.facts.contents plan.streams batch);
+          (batch_sections old.dialect plan.facts.contents plan.streams batch);
     }
 KeepsLines old new plan batch (Err fault) =
     (new ≡ old) × KeepsNone (refuses (is_served old.served) plan batch) (Err fault)

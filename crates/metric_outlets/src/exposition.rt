@@ -9,7 +9,8 @@ use metric_plan::Plan;
 use std::alloc::{AllocError, Global};
 use std::marker::Model;
 
-/// Each batch as the lines that a page has of it. A page is more than these: see [`PageExporter`](crate::PageExporter).
+/// Each batch as the lines that a page has of it. A page is more than these, and has one family of several meters once:
+/// see [`PageExporter`](crate::PageExporter).
 #[derive(Drop)]
 pub struct Exposition {
     dialect: Dialect,

@@ -56,7 +56,8 @@ impl OtlpBytes {
 }
 
 impl Encoding for OtlpBytes {
-    ghost text = { λ e plan batch. request e.resource plan.facts.contents plan.streams (batch ∷ []) };
+    ghost text = { λ e plan batch.
+        request e.resource plan.facts.contents plan.streams (batch ∷ []) };
 
     ghost takes = { λ e. is_served e.served };
 

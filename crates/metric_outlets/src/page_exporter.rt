@@ -4,6 +4,7 @@ ghost use Rattle.std.specs.List.{flat_map};
 ghost use Rattle.metric_base.specs.Steps.{GivesBy, with_fault};
 ghost use Rattle.metric_io.specs.declared.devices.Broken.{Broken};
 ghost use Rattle.metric_exposition.specs.Pages.{end_text};
+ghost use Rattle.metric_exposition.specs.Sections.{gathered};
 ghost use Rattle.metric_exposition.specs.Targets.{target_text};
 ghost use Rattle.metric_exposure.specs.Exposures.{exposure_faults};
 ghost use Rattle.metric_exposure.specs.declared.outlet.Outlet.TheVariants.{Prometheus};
@@ -16,7 +17,7 @@ use crate::served::{Served, served_by_pages};
 use metric_base::Items;
 use metric_contents::Instrument;
 use metric_export::{ExportFault, ExporterState, MetricExporter, own_batch};
-use metric_exposition::{Dialect, push_end, push_exposition, push_target};
+use metric_exposition::{Dialect, Section, batch_sections, push_end, push_gathered, push_target};
 use metric_history::Batch;
 use metric_io::Broken;
 use metric_plan::Plan;
@@ -51,10 +52,11 @@ pub struct PageExporter<P> {
     served: Served,
     dialect: Dialect,
     target: Items<u8>,
-    lines: Vec<Items<u8>>,
+    lines: Vec<Items<Section>>,
     pages: P,
     // The page, written anew at each flush.
     page: Vec<u8>,
+    alloc: Global,
     failures: u64,
     state: ExporterState,
 }
@@ -119,6 +121,7 @@ impl<P: Pages + Drop> PageExporter<P> {
             lines,
             pages,
             page: Vec::new(alloc),
+            alloc,
             failures: 0,
             state: ExporterState::Open,
         })
@@ -139,6 +142,7 @@ impl<P: Pages + Drop> PageExporter<P> {
             ⊎ ((result ≡ Err ExportFault.Memory) × (self.new ≡ self.old)) }
     {
         fill_page(
+            self.alloc,
             &mut self.page,
             self.dialect,
             self.target.as_slice(),
@@ -167,8 +171,8 @@ fn target_of(alloc: Global, dialect: Dialect, resource: &Resource) -> Result<Ite
     }
 }
 
-// An empty text for each instrument.
-fn no_lines(alloc: Global, instruments: &[Instrument]) -> Result<Vec<Items<u8>>, AllocError>
+// No lines of each instrument.
+fn no_lines(alloc: Global, instruments: &[Instrument]) -> Result<Vec<Items<Section>>, AllocError>
     ensures { IfOk result (λ lines. lines.items ≡ map (λ _. []) instruments.now) }
 {
     instruments.iter().map(|_| Items::new(alloc)).collect(alloc)
@@ -176,32 +180,23 @@ fn no_lines(alloc: Global, instruments: &[Instrument]) -> Result<Vec<Items<u8>>,
 
 // Makes this the page of these lines.
 fn fill_page(
+    alloc: Global,
     page: &mut Vec<u8>,
     dialect: Dialect,
     target: &[u8],
-    lines: &[Items<u8>],
+    lines: &[Items<Section>],
 ) -> Result<(), AllocError>
     ensures { OnOk result (page.new.items
-        ≡ target.now ++ flat_map (λ lines. lines) lines.now ++ end_text dialect) }
+        ≡ target.now ++ gathered (flat_map (λ lines. lines) lines.now) ++ end_text dialect) }
 {
     page.clear();
     page.extend_from_slice(target)?;
-    push_lines(page, lines)?;
+    push_gathered(alloc, page, lines)?;
     push_end(page, dialect)
 }
 
-#[tactic(auto, using(metric_text::specs::ListLaws::steps))]
-fn push_lines(page: &mut Vec<u8>, lines: &[Items<u8>]) -> Result<(), AllocError>
-    ensures { OnOk result (page.new.items ≡ page.old.items ++ flat_map (λ lines. lines) lines.now) }
-{
-    for own in lines {
-        page.extend_from_slice(own.as_slice())?;
-    }
-    Ok(())
-}
-
 // Puts lines in place of those of an instrument, if there is one of this number.
-fn put(lines: &mut Vec<Items<u8>>, instrument: u32, own: Items<u8>)
+fn put(lines: &mut Vec<Items<Section>>, instrument: u32, own: Items<Section>)
     ensures { lines.new.items ≡ slice_set lines.old.items instrument own }
 {
     if let Some(place) = lines.get_mut(instrument as usize) {
@@ -234,16 +229,8 @@ impl<P: Pages + Drop> MetricExporter for PageExporter<P> {
     fn export(&mut self, alloc: Global, plan: &Plan, batch: &Batch) -> Result<(), ExportFault> {
         self.state.admit()?;
         own_batch(plan, batch, self.served.is(batch.plan, batch.reader))?;
-        let mut lines = Vec::new(alloc);
-        push_exposition(
-            alloc,
-            &mut lines,
-            self.dialect,
-            plan.catalogue(),
-            plan.streams(),
-            batch,
-        )?;
-        put(&mut self.lines, batch.instrument, Items::from_vec(lines));
+        let lines = batch_sections(alloc, self.dialect, plan.catalogue(), plan.streams(), batch)?;
+        put(&mut self.lines, batch.instrument, lines);
         Ok(())
     }
 

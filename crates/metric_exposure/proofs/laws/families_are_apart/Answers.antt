@@ -1,5 +1,5 @@
 -- laws of the definitions
-use Rattle.metric_exposure.proofs.Passing.{families_are_apart, none_claims_the_target}
+use Rattle.metric_exposure.proofs.Gathered.{families_are_apart, none_claims_the_target}
 use Rattle.metric_exposure.proofs.laws.families_are_apart.Goals as goal
 
 pub returns : goal.returns

@@ -3,7 +3,8 @@ use Rattle.std.proofs.Common.{◌≡◌, ℕ, ◌<◌, ◌==◌, [], length, sym
 use Rattle.std.specs.List.{flat_map, list_any, range_with_len}
 use Rattle.metric_exposure.specs.declared.fault.ExposureFault.TheVariants.{Boundary}
 use Rattle.metric_exposure.specs.declared.outlet.Outlet.TheVariants.{Otlp}
-use Rattle.metric_exposure.specs.Exposures.{boundaries_of, exposure_faults, faults_at, first_of, is_inexact}
+use Rattle.metric_exposure.specs.Exposures.{exposure_faults, faults_at, first_of, is_inexact}
+use Rattle.metric_exposure.specs.Sources.{boundaries_of}
 use Rattle.metric_exposure.proofs.FirstFault.{fault_absent, fault_there, first_found}
 use Rattle.metric_exposure.proofs.Firsts.{faults_is}
 use Rattle.metric_exposure.proofs.Turns.{still}
