@@ -106,11 +106,13 @@ uint32_t wormweekly_page(wormweekly_instrument *instruments, size_t instruments_
     struct page page = { out, room, 0 };
     uint32_t answer = write_target(&page, dialect, resource, resource_length);
     for (size_t i = 0; i < instruments_length && answer == WORMWEEKLY_DONE; i++) {
-        size_t length = 0;
         if (hold != NULL) hold(host, i, 1);
-        answer = wormweekly_collect(&instruments[i], reader, now);
+        answer = i == 0 ? wormweekly_collect(&instruments[i], reader, now)
+                        : wormweekly_collect_also(&instruments[i], reader, now);
         if (hold != NULL) hold(host, i, 0);
-        if (answer != WORMWEEKLY_DONE) return answer;
+    }
+    if (answer == WORMWEEKLY_DONE && instruments_length > 0) {
+        size_t length = 0;
         answer = wormweekly_prometheus(reader, dialect, end_of(&page), left_of(&page), &length);
         answer = grow(&page, answer, length);
     }

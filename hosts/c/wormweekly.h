@@ -354,9 +354,9 @@ uint32_t wormweekly_otlp(wormweekly_reader *reader, uint32_t json, const uint8_t
                          size_t *text_length);
 
 /* A PAGE FOR PROMETHEUS. `dialect` is the text format 0.0.4 (0), OpenMetrics 1.0 (1), or that with lines `_created` (2;
- * WORMWEEKLY_UNKNOWN above). A page is what wormweekly_prometheus_target writes of a resource, then for each instrument
- * in order what wormweekly_prometheus writes after it was collected, and in OpenMetrics the line "# EOF\n". None needs
- * a mutex. */
+ * WORMWEEKLY_UNKNOWN above). A page is what wormweekly_prometheus_target writes of a resource, then what
+ * wormweekly_prometheus writes once of all instruments, collected in order (wormweekly_collect_also), since the lines of
+ * one family stand together, and in OpenMetrics the line "# EOF\n". None needs a mutex. */
 
 /* Whether the streams of a reader can stand in a page: a server would hold each sample, and take none for another. A
  * fault (WORMWEEKLY_FAULT) is told in `fault`, as far as there is room, with its whole length. Ask before anything is

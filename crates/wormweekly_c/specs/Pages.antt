@@ -1,9 +1,8 @@
 -- What batches and resources are in a page for Prometheus.
-use Rattle.std.specs.Prelude.{◌≡◌, ◌==◌, ℕ, List, [], Option, Some, None, Result, Ok, Err}
+use Rattle.std.specs.Prelude.{◌≡◌, ◌==◌, ℕ, List, Option, Some, None, Result, Ok, Err}
 use Rattle.std.specs.Prelude.{if◌then◌else◌}
-use Rattle.std.specs.List.{flat_map}
 use Rattle.metric_contents.specs.declared.attributes.OwnedAttr.{OwnedAttr}
-use Rattle.metric_exposition.specs.Expositions.{exposition}
+use Rattle.metric_exposition.specs.Pages.{page_lines}
 use Rattle.metric_exposition.specs.TargetFaults.{target_check}
 use Rattle.metric_exposition.specs.Targets.{target_text}
 use Rattle.metric_exposition.specs.declared.dialect.Dialect.{Dialect}
@@ -22,10 +21,10 @@ dialect_of number =
     else (if number == 1 then Some OpenMetrics
     else (if number == 2 then Some OpenMetricsCreated else None))
 
--- the lines of the batches that a reader keeps, none before one
-abbrev pub page_lines : HostedReader → Dialect → List ℕ
-page_lines own dialect =
-    flat_map (exposition dialect own.plan.facts.contents own.plan.streams) own.kept
+-- the lines of the batches that a reader keeps, those of one family together
+abbrev pub kept_lines : HostedReader → Dialect → List ℕ
+kept_lines own dialect =
+    page_lines dialect own.plan.facts.contents own.plan.streams own.kept
 
 -- the number of a fault of a target
 abbrev pub number_of_target : TargetFault → ℕ

@@ -46,7 +46,8 @@ pub extern "C" fn wormweekly_open_certified_run(
         → Counted (IsVouchedPlan catalogue.now config.now certificate.now) counts.new }
     ensures short { result ≡ 102 → lacks_handles counts.new
         (length instruments.old) (length recorders.old) (length readers.old) ≡ true }
-    ensures uncounted { (result ≡ 101) ⊎ ((result ≡ 103) ⊎ (result ≡ 109)) → counts.new ≡ counts.old }
+    ensures uncounted { (result ≡ 101) ⊎ ((result ≡ 103) ⊎ (result ≡ 109))
+        → counts.new ≡ counts.old }
     ensures no_text { result ≡ 101
         → (is_utf8 catalogue.now && (is_utf8 config.now && is_utf8 certificate.now)) ≡ false }
     ensures texts { result ≡ 103

@@ -59,7 +59,8 @@ pub extern "C" fn wormweekly_open_run(
     ensures counted { result ≡ 102 → Counted (IsCertifiedPlan catalogue.now config.now) counts.new }
     ensures short { result ≡ 102 → lacks_handles counts.new
         (length instruments.old) (length recorders.old) (length readers.old) ≡ true }
-    ensures uncounted { (result ≡ 101) ⊎ ((result ≡ 103) ⊎ (result ≡ 109)) → counts.new ≡ counts.old }
+    ensures uncounted { (result ≡ 101) ⊎ ((result ≡ 103) ⊎ (result ≡ 109))
+        → counts.new ≡ counts.old }
     ensures no_text { result ≡ 101 → (is_utf8 catalogue.now && is_utf8 config.now) ≡ false }
     ensures texts { result ≡ 103 → (is_utf8 catalogue.now && is_utf8 config.now) ≡ true }
     ensures fault { result ≢ 103 → (fault.new ≡ fault.old) × (fault_length.new ≡ 0) }

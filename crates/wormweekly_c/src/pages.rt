@@ -1,9 +1,10 @@
 //! Batches and resources as lines of a page for Prometheus.
-ghost use Rattle.std.specs.Prelude.{◌≡◌, ◌≢◌, ◌⊎◌, IfOk};
+ghost use Rattle.std.specs.Prelude.{◌≡◌, ◌≢◌, ◌⊎◌, IfOk, map};
+ghost use Rattle.metric_exposition.specs.Sections.{batch_sections};
 ghost use Rattle.metric_base.specs.Steps.{GivesBy};
 ghost use Rattle.std.specs.Option.{MatchOption};
 ghost use Rattle.wormweekly_c.specs.Codes.{WhereHeld, reader_in};
-ghost use Rattle.wormweekly_c.specs.Pages.{AnswersLines, AnswersTarget, dialect_of, number_of_target, page_lines};
+ghost use Rattle.wormweekly_c.specs.Pages.{AnswersLines, AnswersTarget, dialect_of, kept_lines, number_of_target};
 ghost use Rattle.wormweekly_c.specs.Resources.{resource_from};
 ghost use Rattle.wormweekly_c.specs.Texts.{AnswersText};
 ghost use Rattle.metric_exposition.specs.TargetFaults.{target_check};
@@ -15,15 +16,18 @@ use crate::handles::Handle;
 use crate::held::Held;
 use crate::resources::{code_of, resource_from};
 use crate::texts::copy_text;
-use metric_exposition::{Dialect, TargetFault, push_exposition, push_target};
+use metric_base::Items;
+use metric_exposition::{
+    Dialect, Section, TargetFault, batch_sections, push_gathered, push_target,
+};
 use metric_hosted::HostedReader;
 use metric_resource::Resource;
 use std::alloc::{AllocError, Global};
 
 /// Writes the lines of the batches that a reader keeps in a format of a number, if there is room for all of them, and
-/// their length: the text format 0.0.4 (0), OpenMetrics 1.0 (1), or that with lines `_created` (2). There are none
-/// before a batch. A page is the lines of a resource, those of the batches of all instruments, and in OpenMetrics the
-/// line `# EOF`.
+/// their length: the text format 0.0.4 (0), OpenMetrics 1.0 (1), or that with lines `_created` (2). Those of one family
+/// stand together. There are none before a batch. A page is the lines of a resource, those of the batches of all
+/// instruments, and in OpenMetrics the line `# EOF`.
 #[unsafe(no_mangle)]
 pub extern "C" fn wormweekly_prometheus(
     alloc: Global,
@@ -34,7 +38,7 @@ pub extern "C" fn wormweekly_prometheus(
 ) -> u32
     ensures answer { WhereHeld (reader_in reader.old) (result ≡ 100) (λ own.
         MatchOption (dialect_of dialect) (result ≡ 106) (λ d.
-        AnswersText (page_lines own d) out.old out.new text_length.new result ⊎ (result ≡ 11))) }
+        AnswersText (kept_lines own d) out.old out.new text_length.new result ⊎ (result ≡ 11))) }
     ensures reader { reader.new.value ≡ reader.old.value }
     ensures refused { result ≢ 0 → out.new ≡ out.old }
     ensures length { result ≢ 0 → result ≢ 102 → text_length.new ≡ text_length.old }
@@ -56,14 +60,14 @@ fn write_lines(
     text_length: &mut usize,
 ) -> u32
     ensures answer { MatchOption (dialect_of dialect) (result ≡ 106) (λ d.
-        AnswersText (page_lines own.now d) out.old out.new text_length.new result
+        AnswersText (kept_lines own.now d) out.old out.new text_length.new result
         ⊎ (result ≡ 11)) }
     ensures refused { result ≢ 0 → out.new ≡ out.old }
     ensures length { result ≢ 0 → result ≢ 102 → text_length.new ≡ text_length.old }
 {
     match dialect_of(dialect) {
         None => UNKNOWN,
-        Some(dialect) => match page_lines(alloc, own, dialect) {
+        Some(dialect) => match kept_lines(alloc, own, dialect) {
             Err(_) => MEMORY,
             Ok(text) => copy_text(text.as_slice(), out, text_length),
         },
@@ -82,23 +86,30 @@ fn dialect_of(number: u32) -> Option<Dialect>
 }
 
 // The lines of the batches that a reader keeps.
-#[tactic(auto, using(metric_text::specs::ListLaws::steps))]
-fn page_lines(alloc: Global, own: &HostedReader, dialect: Dialect) -> Result<Vec<u8>, AllocError>
-    ensures { IfOk result (λ text. text.items ≡ page_lines own.now dialect) }
+fn kept_lines(alloc: Global, own: &HostedReader, dialect: Dialect) -> Result<Vec<u8>, AllocError>
+    ensures { IfOk result (λ text. text.items ≡ kept_lines own.now dialect) }
 {
+    let sections = kept_sections(alloc, own, dialect)?;
     let mut out = Vec::new(alloc);
+    push_gathered(alloc, &mut out, sections.as_slice())?;
+    Ok(out)
+}
+
+// The sections of each batch that a reader keeps.
+fn kept_sections(
+    alloc: Global,
+    own: &HostedReader,
+    dialect: Dialect,
+) -> Result<Vec<Items<Section>>, AllocError>
+    ensures { IfOk result (λ all. all.items ≡ map (batch_sections dialect
+        own.now.plan.facts.contents own.now.plan.streams) own.now.kept) }
+{
+    let mut all = Vec::new(alloc);
     let plan = own.plan.get();
     for batch in own.kept.as_slice() {
-        push_exposition(
-            alloc,
-            &mut out,
-            dialect,
-            plan.catalogue(),
-            plan.streams(),
-            batch,
-        )?;
+        all.push(batch_sections(alloc, dialect, plan.catalogue(), plan.streams(), batch)?)?;
     }
-    Ok(out)
+    Ok(all)
 }
 
 /// Writes the lines of a resource in a format of a number, under the same rule. One without attributes has none, and
