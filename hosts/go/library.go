@@ -503,7 +503,7 @@ func batchOTLP(own *handles, reader int, resource given, json int) ([]byte, uint
 	})
 }
 
-// Writes the batch that a reader keeps as lines of a page.
+// Writes the batches that a reader keeps as lines of a page.
 func batchPage(own *handles, reader int, dialect Dialect) ([]byte, uint32) {
 	return askBytes(func(out *C.uint8_t, room C.size_t, length *C.size_t) C.uint32_t {
 		return C.wormweekly_prometheus(own.reader(reader), C.uint32_t(dialect), out, room, length)

@@ -522,20 +522,21 @@ func (reader *Reader) encoded(collect func() error, resource []Attr, json int) (
 // resource once, and the instruments of each meter side by side. Where an instrument is refused, those before it come
 // with the next message. Keep one that was not taken, as of Reader.OTLP.
 func (metrics *Metrics) OTLP(reader *Reader, now time.Time, resource ...Attr) ([]byte, error) {
-	return reader.encoded(func() error { return reader.collectAll(metrics, now) }, resource, 0)
+	return reader.encoded(func() error { return reader.collectAll(metrics, now, reader.unsent) }, resource, 0)
 }
 
 // OTLPLine is the same as a line of JSON.
 func (metrics *Metrics) OTLPLine(reader *Reader, now time.Time, resource ...Attr) ([]byte, error) {
-	return reader.encoded(func() error { return reader.collectAll(metrics, now) }, resource, 1)
+	return reader.encoded(func() error { return reader.collectAll(metrics, now, reader.unsent) }, resource, 1)
 }
 
-func (reader *Reader) collectAll(metrics *Metrics, now time.Time) error {
+// Collects all, behind the batches that are kept or in place of them.
+func (reader *Reader) collectAll(metrics *Metrics, now time.Time, isBehind bool) error {
 	for _, instrument := range metrics.Instruments {
-		if err := reader.collectKept(instrument, now, reader.unsent); err != nil {
+		if err := reader.collectKept(instrument, now, isBehind); err != nil {
 			return err
 		}
-		reader.unsent = true
+		isBehind, reader.unsent = true, true
 	}
 	return nil
 }

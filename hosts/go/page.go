@@ -1,7 +1,6 @@
 package wormweekly
 
 import (
-	"bytes"
 	"fmt"
 	"math"
 	"strconv"
@@ -87,7 +86,8 @@ func (reader *Reader) Expose() error {
 	return errorOf(answer)
 }
 
-// Prometheus collects an instrument as Collect does, and answers lines of a page. Metrics.Page has a whole one.
+// Prometheus collects an instrument as Collect does, and answers its lines of a page. Metrics.Page has a whole one,
+// where instruments of one name in several meters stand together.
 func (reader *Reader) Prometheus(instrument *Instrument, now time.Time, dialect Dialect) ([]byte, error) {
 	reader.mutex.Lock()
 	defer reader.mutex.Unlock()
@@ -107,16 +107,27 @@ func (metrics *Metrics) Page(reader *Reader, now time.Time, dialect Dialect, res
 	if answer != answerDone {
 		return nil, errorOf(answer)
 	}
-	page := bytes.NewBuffer(about)
-	for _, instrument := range metrics.run.instruments {
-		lines, err := reader.Prometheus(instrument, now, dialect)
-		if err != nil {
-			return nil, err
-		}
-		page.Write(lines)
+	lines, err := reader.lines(metrics, now, dialect)
+	if err != nil {
+		return nil, err
 	}
+	page := append(about, lines...)
 	if dialect != Text {
-		page.WriteString("# EOF\n")
+		page = append(page, "# EOF\n"...)
 	}
-	return page.Bytes(), nil
+	return page, nil
+}
+
+// Collects all instruments, without the batches that are kept, and answers their lines.
+func (reader *Reader) lines(metrics *Metrics, now time.Time, dialect Dialect) ([]byte, error) {
+	reader.mutex.Lock()
+	defer reader.mutex.Unlock()
+	if err := reader.collectAll(metrics, now, false); err != nil {
+		return nil, err
+	}
+	lines, answer := batchPage(reader.run.handles, reader.number, dialect)
+	if answer == answerDone {
+		reader.unsent = false
+	}
+	return lines, errorOf(answer)
 }

@@ -21,31 +21,32 @@ static uint32_t collect_on(Seat *on, wormweekly_reader *reader, uint64_t now) {
     return answer;
 }
 
-/* Collects all instruments. Where one is refused, those before it are kept, and come with the next ones. */
-static uint32_t collect_all(Seat *self, wormweekly_reader *reader, uint64_t now) {
+/* Collects all instruments, behind the batches that are kept or in place of them. Where one is refused, those before it
+ * are kept, and come with the next ones. */
+static uint32_t collect_all(Seat *self, wormweekly_reader *reader, uint64_t now, int is_behind) {
     Handles *of = &self->run->handles;
     uint32_t answer = WORMWEEKLY_DONE;
-    int unsent = self->unsent;
     size_t i;
     Py_BEGIN_ALLOW_THREADS
     for (i = 0; i < of->lists.counts.instruments && answer == WORMWEEKLY_DONE; i++) {
-        answer = handles_collect(of, i, reader, now, unsent);
-        unsent = unsent || answer == WORMWEEKLY_DONE;
+        answer = handles_collect(of, i, reader, now, is_behind);
+        is_behind = is_behind || answer == WORMWEEKLY_DONE;
     }
     Py_END_ALLOW_THREADS
-    self->unsent = unsent;
+    self->unsent = self->unsent || is_behind;
     return answer;
 }
 
 static PyObject *tell_otlp(Run *run, wormweekly_reader *reader, void *resource);
 static PyObject *tell_otlp_line(Run *run, wormweekly_reader *reader, void *resource);
+static PyObject *tell_lines(Run *run, wormweekly_reader *reader, void *dialect);
 
-/* Collects an instrument, or for OTLP all (None), at a time, the first two arguments, and answers what `told` makes of
- * it. */
+/* Collects an instrument, or for OTLP and pages all (None), at a time, the first two arguments, and answers what `told`
+ * makes of it. A page has no batches of before. */
 static PyObject *collect_as(Seat *self, PyObject *const *args, PyObject *(*told)(Run *, wormweekly_reader *, void *),
                             void *beside) {
     Run *run = self->run;
-    int is_all = args[0] == Py_None && (told == tell_otlp || told == tell_otlp_line);
+    int is_all = args[0] == Py_None && (told == tell_otlp || told == tell_otlp_line || told == tell_lines);
     Seat *on = is_all ? NULL : read_seat(run, args[0], run->state->instrument, "an instrument");
     uint64_t now;
     wormweekly_reader *reader;
@@ -58,7 +59,11 @@ static PyObject *collect_as(Seat *self, PyObject *const *args, PyObject *(*told)
     if (reader == NULL) {
         return NULL;
     }
-    answer = is_all ? collect_all(self, reader, now) : collect_on(on, reader, now);
+    if (is_all) {
+        answer = collect_all(self, reader, now, self->unsent && told != tell_lines);
+    } else {
+        answer = collect_on(on, reader, now);
+    }
     made = answer == WORMWEEKLY_DONE ? told(run, reader, beside) : refuse(run, answer);
     if (made != NULL) {
         self->unsent = 0;
@@ -177,7 +182,7 @@ static int read_dialect(Run *run, PyObject *given, uint32_t *dialect) {
     return 1;
 }
 
-/* _collect_page(instrument, now, dialect) */
+/* _collect_page(instrument or None for all, now, dialect) */
 static PyObject *collect_page(Seat *self, PyObject *const *args, Py_ssize_t count) {
     uint32_t dialect;
     if (!has_count(self->run, count, 3) || !read_dialect(self->run, args[2], &dialect)) {

@@ -139,6 +139,25 @@ class Batches(unittest.TestCase):
         created = self.metrics.page(self.all, dialect=Dialect.OPEN_METRICS_CREATED)
         self.assertIn(b"requests_created{", created)
 
+    def test_a_page_of_several_meters(self) -> None:
+        instrument = "[[meter.instrument]]\nname = 'hits'\nkind = 'counter'\nrange = [0, 9]\n"
+        meters = "".join(f"[[meter]]\nname = '{name}'\n{instrument}" for name in "ab")
+        budgets = "budget = [{ instrument = 0, amount = 9 }, { instrument = 1, amount = 9 }]\n"
+        metrics = Metrics.open(f"format = 1\n{meters}[[recorder]]\nname = 'r'\n{budgets}", CONFIG)
+        reader = metrics.reader("all")
+        reader.expose()
+        for number, hits in enumerate(metrics.instruments):
+            metrics.recorder("r").record(hits, {}, number + 1)
+        lines = [
+            "# HELP hits_total ",
+            "# TYPE hits_total counter",
+            'hits_total{otel_scope_name="a"} 1',
+            'hits_total{otel_scope_name="b"} 2',
+        ]
+        for _ in range(2):
+            self.assertEqual(metrics.page(reader).decode().splitlines(), lines)
+            metrics.otlp(reader, {})  # after which a page has no batch twice
+
     def test_what_can_not_stand_in_a_page(self) -> None:
         with self.assertRaises(ExposureFault) as caught:
             self.new.expose()

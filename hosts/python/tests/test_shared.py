@@ -4,7 +4,6 @@ import asyncio
 import logging
 import sys
 import threading
-import time
 import unittest
 from collections.abc import Callable
 from typing import Any
@@ -325,14 +324,12 @@ class Crowd(unittest.TestCase):
     def test_ten_thousand_tasks_record_over_eight_recorders(self) -> None:
         metrics = Metrics.open(CROWD, CONFIG.partition("[[reader]]\nname = 'new'")[0])
         requests, in_flight = metrics.instruments
-        cart, waits = requests.bind({"route": "/cart"}), []
+        cart = requests.bind({"route": "/cart"})
 
         async def task() -> None:
             with in_flight.in_flight():
-                began = time.perf_counter()
                 requests.add(2, {"route": "/"})
                 cart.add(3)
-                waits.append(time.perf_counter() - began)
                 await asyncio.sleep(0)
 
         async def work() -> None:
@@ -341,8 +338,6 @@ class Crowd(unittest.TestCase):
         run_all(2, lambda: asyncio.run(work()))
         self.assertEqual(metrics.settle(), (Total(20_000, 50_000), Total(20_000, 0)))
         self.assertEqual((requests.refused, in_flight.refused), ({}, {}))
-        # who is interrupted between the two has waited too, so a few may
-        self.assertLess(sum(wait > 0.001 for wait in waits), 500)
 
 
 class Failing:

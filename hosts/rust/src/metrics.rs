@@ -96,9 +96,9 @@ impl Metrics {
         &self.instruments
     }
 
-    /// Collects all instruments at a time in nanoseconds, in order, and answers a page for Prometheus: the lines of
-    /// each batch, and in OpenMetrics the end. The lines of a [`Resource`](crate::Resource) stand before it. Each lock
-    /// is held for the collection alone. [`Reader::expose`] tells beforehand whether a server will hold each sample.
+    /// Collects all instruments at a time in nanoseconds, in order, and answers a page for Prometheus: their lines,
+    /// and in OpenMetrics the end. The lines of a [`Resource`](crate::Resource) stand before it. Each lock is held for
+    /// the collection alone. [`Reader::expose`] tells beforehand whether a server will hold each sample.
     ///
     /// # Errors
     ///

@@ -237,7 +237,8 @@ class Reader(_library.Reader):
     def prometheus(
         self, instrument: Instrument, now: int | None = None, dialect: Dialect = Dialect.TEXT
     ) -> bytes:
-        """The same as lines of a page for Prometheus. `Metrics.page` has a whole one."""
+        """The same as lines of a page for Prometheus. `Metrics.page` has a whole one, where instruments of one name in
+        several meters stand together."""
         return self._collect_page(instrument, time.time_ns() if now is None else now, dialect)
 
     def last(self) -> Batch | None:
@@ -339,10 +340,8 @@ class Metrics:
         """A page for Prometheus of all instruments, collected by a cumulative reader, with the attributes of the
         resource as `target_info`. Ask `Reader.expose` first, once."""
         at = time.time_ns() if now is None else now
-        page = [reader._target(resource or {}, dialect)]
-        page += (reader.prometheus(instrument, at, dialect) for instrument in self.instruments)
-        page += [] if dialect is Dialect.TEXT else [b"# EOF\n"]
-        return b"".join(page)
+        page = reader._target(resource or {}, dialect) + reader._collect_page(None, at, dialect)
+        return page if dialect is Dialect.TEXT else page + b"# EOF\n"
 
     def otlp(
         self, reader: Reader, resource: Attributes, now: int | None = None, *, json: bool = False
