@@ -196,6 +196,7 @@ fn tell_run<R: Abort + Wait>(page: &mut Page<'_, R>, (each, steps, _): &Run) {
         do_step(page, provider, &orders, &mut till, step);
         tell_till(page, provider, orders.number(), &till);
     }
+    drop(till)
 }
 
 #[test]
@@ -238,5 +239,6 @@ fn room_is_made_for_a_job(rt: HostRuntime) {
     let other = shop(&rt, rt.alloc(), 2);
     seat.make_room(&rt, &other.provider, 0, 99);
     page.tell(other.provider.spare_left(&rt, 0).or_fail(&rt));
+    drop(seat);
     page.assert(MADE);
 }

@@ -183,12 +183,8 @@ fn tell<R: Abort>(rt: &R, alloc: Global, totals: &mut Totals, values: &[i64], sl
     }
     let mut own = Items::new(alloc);
     own.push(slip_of(rt, alloc, slips)).or_fail(rt);
-    if let Some(first) = totals.journals.first_mut() {
-        *first = journal;
-    }
-    if let Some(first) = totals.slips.first_mut() {
-        *first = own;
-    }
+    *totals.journals.first_mut().expect(rt, "no journal") = journal;
+    *totals.slips.first_mut().expect(rt, "no slips") = own;
 }
 
 fn change_batch(batches: &mut Vec<Batch>, change: &Change) {
@@ -226,7 +222,8 @@ fn tell_audit<R: Abort + Wait>(page: &mut Page<'_, R>, extent: Extent, change: &
     make_change(page.rt, page.alloc, &mut told, change);
     let plan = certified_plan(page.alloc, SHOP, READERS).or_fail(page.rt);
     let Told { totals, batches } = told;
-    page.answer(audit_run(page.alloc, &plan, &totals, 5, batches, extent))
+    page.answer(audit_run(page.alloc, &plan, &totals, 5, batches, extent));
+    drop(totals)
 }
 
 #[test]

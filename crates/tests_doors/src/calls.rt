@@ -379,7 +379,8 @@ fn tell_begun<R: Abort>(
     make(page, &mut first, lent, &Call::First);
     let (_lost, kept) = first.into_parts();
     let mut next = Queued::with_kept(failing_at(page.alloc, &[]), kept, 4);
-    tell_queue(page, &mut next, lent, calls)
+    tell_queue(page, &mut next, lent, calls);
+    drop(next)
 }
 
 fn tell_twice<R: Abort>(
@@ -394,7 +395,8 @@ fn tell_twice<R: Abort>(
         make(page, &mut upper, lent, call);
         page.tell((upper.kept().len(), upper.inner().kept().len()));
     }
-    page.tell(upper.inner().inner().taken.as_slice())
+    page.tell(upper.inner().inner().taken.as_slice());
+    drop(upper)
 }
 
 fn tell_counts<R: Abort>(page: &mut Page<'_, R>, lent: Lent<'_>, queues: &[Queue]) {
@@ -411,6 +413,7 @@ fn tell_counts<R: Abort>(page: &mut Page<'_, R>, lent: Lent<'_>, queues: &[Queue
                 counts.unkept(),
             ]);
         }
+        drop(queue)
     }
 }
 
@@ -487,7 +490,8 @@ fn tell_case<R: Abort>(page: &mut Page<'_, R>, lent: Lent<'_>, case: &Case) {
     match case.exporter {
         Exporter::Queue(most, fails_at) => {
             let mut queue = Queued::new(page.alloc, failing_at(page.alloc, fails_at), most);
-            tell_queue(page, &mut queue, lent, calls)
+            tell_queue(page, &mut queue, lent, calls);
+            drop(queue)
         }
         Exporter::Begun(fails_at) => tell_begun(page, lent, fails_at, calls),
         Exporter::Twice(fails_at) => tell_twice(page, lent, fails_at, calls),
@@ -511,4 +515,5 @@ fn each_call_of_an_exporter_is_answered(rt: HostRuntime) {
         tell_case(&mut page, sources.lent(), case);
         page.assert(case.told);
     }
+    drop(sources)
 }

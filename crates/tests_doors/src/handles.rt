@@ -428,7 +428,8 @@ fn tell_recorder<R: Abort + Wait>(page: &mut Page<'_, R>, service: &mut Service,
     let mut reader = taken.expect(page.rt, "no pull");
     let batch = reader.collect(page.rt, page.alloc, &service.provider, 0, 10);
     tell_found_points(page, service.provider.plan(), batch.or_fail(page.rt));
-    page.tell(left(&seat, service.provider.plan(), 0))
+    page.tell(left(&seat, service.provider.plan(), 0));
+    drop(seat)
 }
 
 // Writes each point of a batch, and what is found by name and attributes.
@@ -460,7 +461,8 @@ fn tell_twice<R: Abort + Wait>(page: &mut Page<'_, R>, provider: &MeterProvider,
     let mut seat = counted(page.rt, page.alloc, provider.plan(), seat);
     sell(page, provider, &mut seat);
     tell_refused(page, &seat);
-    tell_refused(page, seat.seat())
+    tell_refused(page, seat.seat());
+    drop(seat)
 }
 
 fn tell_recordings<R: Abort + Wait>(
@@ -473,7 +475,8 @@ fn tell_recordings<R: Abort + Wait>(
         let _ = seat.record(page.rt, provider, *instrument, &[country(name)], *value);
     }
     tell_refused(page, &seat);
-    page.tell(seat.into_seat().accepted(0))
+    page.tell(seat.seat().accepted(0));
+    drop(seat)
 }
 
 fn tell_sale<R: Abort + Wait>(page: &mut Page<'_, R>, by: &By) {

@@ -362,6 +362,7 @@ fn rolled<R: Abort + Wait>(page: &mut Page<'_, R>, service: Service, run: u64) -
     match provider.roll_over(page.rt, page.alloc, recorders, 100, run) {
         Ok(next) => {
             page.tell(next.totals.instruments.as_slice());
+            drop(next.totals);
             Service::of((next.provider, next.recorders, next.collectors))
         }
         Err((provider, recorders, fault)) => {
@@ -464,7 +465,9 @@ where
     };
     let service = service.build().or_fail(rt);
     let (service, _workers) = live(rt, service, recorders, &flag, &work);
-    service.outlets().1.exported()
+    let exported = service.outlets().1.exported();
+    drop(service);
+    exported
 }
 
 #[test]

@@ -32,5 +32,6 @@ fn a_run_of_one_recorder_comes_to_what_it_was_told(rt: HostRuntime) {
     }
     let totals = totals_of_one(&rt, rt.alloc(), provider, recorder).or_fail(&rt);
     page.tell(totals.instruments.as_slice());
+    drop(totals);
     page.assert("[Total { count: 2, sum: 9 }]\n");
 }

@@ -182,6 +182,7 @@ fn batches_leave_in_each_encoding(rt: HostRuntime) {
     page.push("\n");
     let lines = Exposition::new(Dialect::Text);
     tell_encoded(&mut page, lines, sources.lent());
+    drop(sources);
     page.assert(ENCODED.concat(alloc).or_fail(&rt).as_str());
 }
 
@@ -242,6 +243,8 @@ fn a_page_is_handed_on_after_each_collection(rt: HostRuntime) {
         tell_page(&mut page, &mut exporter, lent, call);
         page.assert(wanted.concat(alloc).or_fail(&rt).as_str());
     }
+    drop(exporter);
+    drop(sources)
 }
 
 // A delta reader, and a cumulative one.
@@ -270,7 +273,10 @@ fn an_output_takes_the_batches_of_its_reader(rt: HostRuntime) {
     service.record(&rt, 0, &[], 7);
     let plan = service.provider.plan();
     for reader in [0, 2] {
-        page.answer(pages_of(&rt, alloc, plan, reader).map(|_| ()));
+        let Err(fault) = pages_of(&rt, alloc, plan, reader) else {
+            panic!(rt; "made");
+        };
+        page.say(fault);
     }
     let made = pages_of(&rt, alloc, plan, 1).or_fail(&rt);
     let (provider, _recorders, readers) = service.into_seats();
@@ -286,8 +292,11 @@ fn an_output_takes_the_batches_of_its_reader(rt: HostRuntime) {
     page.say(&untold);
     let mut service = untold.builder;
     assert!(rt; service.ignore("new") && !service.ignore("new"));
-    let again = service.tell(alloc, "all", KeepingExporter::new(alloc), 1);
-    page.answer(again.map(|_| ()).map_err(|left| left.fault));
+    let Err(left) = service.tell(alloc, "all", KeepingExporter::new(alloc), 1) else {
+        panic!(rt; "told again");
+    };
+    page.say(&left.fault);
+    drop(left);
     page.assert(TAKEN);
 }
 
@@ -301,6 +310,7 @@ fn lines_are_of_their_reader(rt: HostRuntime) {
     let lines = OtlpLines::new(plan, 1, resource(&rt, alloc)).or_fail(&rt);
     let mut exporter = TextExporter::of(lines, CutSink::new(alloc, None));
     let told = exporter.export(alloc, plan, &batch);
+    drop(exporter);
     assert_equal(&rt, told, Err(ExportFault::OtherReader));
 }
 
@@ -448,11 +458,12 @@ fn live_runs<R: Abort + Wait, E: MetricExporter>(rt: &R, alloc: Global, lines: &
         assert_shows(rt, alloc, service.outlets().1.exporter(), wanted);
         now = now.saturating_add(20);
         let next = service.roll_over(rt, alloc, recorders, now).or_fail(rt);
+        drop(next.totals);
         (service, recorders) = (next.service, next.recorders);
         // Until the next run has something to say, a page is as it was.
         assert_shows(rt, alloc, service.outlets().1.exporter(), wanted);
     }
-    let _ended = service.end(rt, alloc, recorders, now).or_fail(rt);
+    drop(service.end(rt, alloc, recorders, now).or_fail(rt))
 }
 
 // Ends the test where a page says something else of its instruments.
@@ -481,6 +492,7 @@ fn each_reader_has_its_own_way_out(rt: HostRuntime) {
     let mut queue = Queued::new(rt.alloc(), lines, 99);
     live_runs(&rt, rt.alloc(), &mut queue);
     assert_equal(&rt, (queue.kept().len(), queue.dropped()), (0, 0));
+    drop(queue);
     let written = device.written.lock(&rt);
     assert_equal(&rt, decoded(&rt, written.0.as_slice()), 19);
 }

@@ -102,5 +102,7 @@ fn the_seats_of_two_providers_are_not_shared(rt: HostRuntime) {
     page.tell(orders.add(&rt, &second.provider, &mut seat, &GERMAN, 5));
     page.tell(orders.add(&rt, &first.provider, &mut seat, &GERMAN, 5));
     page.tell(orders.add(&rt, &second.provider, &mut other, &GERMAN, 5));
+    drop(seat);
+    drop(other);
     page.assert(SHARED);
 }

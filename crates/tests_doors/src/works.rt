@@ -3,11 +3,11 @@ use crate::asserted::OrFail;
 use crate::page::Page;
 use crate::services::{Service, counted};
 use metric_handles::{
-    AnySeat, BoundUpDownCounter, Counted, Counter, Need, Timer, TimerFault, counter, histogram,
-    up_down_counter,
+    AnySeat, BoundUpDownCounter, Counted, Counter, Histogram, Timer, TimerFault, counter,
+    histogram, up_down_counter,
 };
 use metric_sdk::{
-    Attr, MeterProvider, Plan, Recorder, Refusal, Replaced, ValueRef, certified_plan,
+    Attr, MeterProvider, Plan, Recorder, Refusal, Replaced, SetsFault, ValueRef, certified_plan,
 };
 use std::alloc::Global;
 use std::process::Abort;
@@ -86,29 +86,76 @@ fn orders_of<R: Abort>(rt: &R, plan: &Plan) -> Counter {
     counter(plan, "shop", "orders", &["country"]).or_fail(rt)
 }
 
-// What a seat does: it adds to orders of a country, or is granted so many on an instrument.
-enum Step {
-    Add(&'static str, i64),
-    Grant(u32, u64),
-    Look,
+// A plan of which nothing is of the shop's.
+fn strange<R: Abort>(rt: &R, alloc: Global) -> Plan {
+    certified_plan(alloc, OTHER, READERS).or_fail(rt)
 }
 
-const STEPS: &[Step] = &[
-    Step::Look,
-    Step::Add("de", 5),
-    Step::Add("uk", 5),
-    Step::Grant(0, 4),
-    Step::Add("fr", 1),
-    Step::Add("fr", 1),
-    Step::Add("fr", 1),
-    Step::Grant(0, 7),
-    Step::Grant(0, 6),
-];
+// The histogram of how long work took: of the shop, or, by any other name, of that plan.
+fn took_of<R: Abort>(page: &Page<'_, R>, plan: &Plan, name: &str) -> Histogram {
+    let found = match name {
+        "took" => histogram(plan, "shop", "took", &[]),
+        _ => histogram(&strange(page.rt, page.alloc), "other", "took", &[]),
+    };
+    found.or_fail(page.rt)
+}
 
-// The answer to each step, and what is then left to the recorder and of the spare, of orders. Then what is left of an
-// instrument that there is not, and to the recorder of another provider, as both tell it.
-const LEFT: &str = "done
-[Ok(3), Ok(10)]
+// An up-down counter with its attributes bound.
+fn bound_of<R: Abort>(rt: &R, plan: &Plan, meter: &str, name: &str) -> BoundUpDownCounter {
+    let active = up_down_counter(plan, meter, name, &[]).or_fail(rt);
+    active.bind(plan, &[]).or_fail(rt)
+}
+
+// What a seat does, and what is told of it.
+enum Step {
+    // The answer, where it adds to orders of a country, or is granted so many on an instrument.
+    Add(&'static str, i64),
+    Grant(u32, u64),
+    // What is left to it on an instrument, and of the spare.
+    Left(u32),
+    // What is left on an instrument to a recorder of another provider, as both tell it.
+    Foreign(u32),
+    // The answers to work that is counted twice on an up-down counter, one within the other.
+    Twice(&'static str),
+    // How many recordings it made on an instrument with this least value, and what they come to.
+    Made(u32, i64),
+    // The answer to an amount of orders or of a duration that is clamped to its instrument's range; and what was
+    // replaced so far.
+    Clamp(&'static str, i64),
+    Replaced,
+    // Whether there is room for all of a job.
+    Room(&'static [(&'static str, u64)]),
+}
+
+// A recorder, what it does, and what is told.
+type Case = (&'static str, &'static [Step], &'static str);
+
+const CASES: &[Case] = &[
+    // What is left counts grants.
+    (
+        "till",
+        &[
+            Step::Left(0),
+            Step::Add("de", 5),
+            Step::Left(0),
+            Step::Add("uk", 5),
+            Step::Left(0),
+            Step::Grant(0, 4),
+            Step::Left(0),
+            Step::Add("fr", 1),
+            Step::Left(0),
+            Step::Add("fr", 1),
+            Step::Left(0),
+            Step::Add("fr", 1),
+            Step::Left(0),
+            Step::Grant(0, 7),
+            Step::Left(0),
+            Step::Grant(0, 6),
+            Step::Left(0),
+            Step::Left(9),
+            Step::Foreign(1),
+        ],
+        "[Ok(3), Ok(10)]
 done
 [Ok(2), Ok(10)]
 5 UnknownValue
@@ -127,65 +174,102 @@ done
 [Ok(9), Ok(0)]
 [Err(UnknownInstrument), Err(UnknownInstrument)]
 [Ok(3), Ok(3)]
-";
-
-fn tell_step<R: Abort + Wait>(
-    page: &mut Page<'_, R>,
-    provider: &MeterProvider,
-    orders: &Counter,
-    seat: &mut Recorder,
-    step: &Step,
-) {
-    let answer = match step {
-        Step::Add(country, value) => {
-            let mut at = seat.at(page.rt, provider);
-            at.add(orders, &[Attr::text("country", country)], *value)
-        }
-        Step::Grant(instrument, amount) => seat.ask(page.rt, provider, *instrument, *amount),
-        Step::Look => Ok(()),
-    };
-    page.answer(answer);
-    tell_left(page, provider, seat, orders.number())
-}
-
-// Writes what is left to a recorder and of the spare.
-fn tell_left<R: Abort + Wait>(
-    page: &mut Page<'_, R>,
-    provider: &MeterProvider,
-    seat: &Recorder,
-    instrument: u32,
-) {
-    let room = seat.room(page.rt, provider, instrument);
-    page.tell([room, provider.spare_left(page.rt, instrument)])
-}
-
-#[test]
-fn what_is_left_counts_grants(rt: HostRuntime) {
-    let mut page = Page::new(&rt, rt.alloc());
-    let mut service = shop(&rt, rt.alloc());
-    let orders = orders_of(&rt, service.provider.plan());
-    let mut seat = service.take(&rt, "till");
-    for step in STEPS {
-        tell_step(&mut page, &service.provider, &orders, &mut seat, step);
-    }
-    tell_left(&mut page, &service.provider, &seat, 9);
-    let mut other = shop(&rt, rt.alloc());
-    let stranger = other.take(&rt, "web");
-    let own = stranger.room(&rt, &other.provider, 1);
-    page.tell([stranger.room(&rt, &service.provider, 1), own]);
-    page.assert(LEFT);
-}
+",
+    ),
+    // A count comes back.
+    (
+        "till",
+        &[Step::Grant(1, 0), Step::Twice("active"), Step::Made(1, -1)],
+        "done
+[Ok(()), Ok(())]
+(4, 0)
+",
+    ),
+    // The budget is 3, and the inner work takes the last of it.
+    (
+        "web",
+        &[Step::Grant(1, 0), Step::Twice("active"), Step::Made(1, -1)],
+        "done
+[Err(Budget), Ok(())]
+(3, 1)
+",
+    ),
+    (
+        "web",
+        &[Step::Grant(1, 1), Step::Twice("active"), Step::Made(1, -1)],
+        "done
+[Ok(()), Ok(())]
+(4, 0)
+",
+    ),
+    (
+        "till",
+        &[Step::Grant(2, 0), Step::Twice("rising"), Step::Made(2, 0)],
+        "done
+[Err(ValueRange), Err(ValueRange)]
+(0, 0)
+",
+    ),
+    // An amount is clamped to the range of its own instrument. The fourth of orders is beyond the budget, and the last
+    // instrument is of another plan.
+    (
+        "till",
+        &[
+            Step::Clamp("orders", 0),
+            Step::Clamp("orders", 101),
+            Step::Clamp("orders", 100),
+            Step::Clamp("orders", 101),
+            Step::Clamp("took", 60001),
+            Step::Clamp("took", 0),
+            Step::Clamp("strange", 60001),
+            Step::Replaced,
+            Step::Made(0, 1),
+            Step::Made(3, 0),
+        ],
+        "Ok(())
+Ok(())
+Ok(())
+Err(Budget)
+Ok(())
+Ok(())
+Err(Stranger)
+Replaced { values: 0, amounts: 3 }
+(3, 201)
+(2, 60000)
+",
+    ),
+    // There is room for all of a job or none; of two needs of one instrument the sum is asked for.
+    (
+        "till",
+        &[
+            Step::Room(&[]),
+            Step::Room(&[("orders", 1), ("took", 1)]),
+            Step::Room(&[("orders", 3), ("took", 2)]),
+            Step::Room(&[("took", 1), ("orders", 2), ("orders", 2)]),
+            Step::Room(&[("orders", 1), ("took", 3)]),
+            Step::Room(&[("orders", 1), ("strange", 1), ("took", 3)]),
+        ],
+        "Ok(())
+Ok(())
+Ok(())
+Err(SetsFault { place: 1, refusal: Budget })
+Err(SetsFault { place: 1, refusal: Budget })
+Err(SetsFault { place: 1, refusal: Stranger })
+",
+    ),
+];
 
 // What is told of work that is counted twice, one within the other.
-fn count_twice<R: Wait>(
+fn count_twice<R: Abort + Wait>(
     rt: &R,
     provider: &MeterProvider,
     seat: &mut Recorder,
-    active: &BoundUpDownCounter,
+    name: &str,
 ) -> [Result<(), Refusal>; 2] {
+    let active = bound_of(rt, provider.plan(), "shop", name);
     let mut at = seat.at(rt, provider);
-    let (inner, outer) = at.during(active, |seat| {
-        seat.at(rt, provider).during(active, |_| ()).1
+    let (inner, outer) = at.during(&active, |seat| {
+        seat.at(rt, provider).during(&active, |_| ()).1
     });
     [outer, inner]
 }
@@ -197,56 +281,114 @@ fn made<R: Abort>(rt: &R, seat: &Recorder, instrument: u32, lo: i64) -> (u64, i1
     (told.count, i128::from(told.amount).saturating_add(least))
 }
 
-// An up-down counter with its attributes bound.
-fn bound_of<R: Abort>(rt: &R, plan: &Plan, meter: &str, name: &str) -> BoundUpDownCounter {
-    let active = up_down_counter(plan, meter, name, &[]).or_fail(rt);
-    active.bind(plan, &[]).or_fail(rt)
+// Whether there is room for a job.
+fn room_for<R: Abort + Wait>(
+    page: &Page<'_, R>,
+    provider: &MeterProvider,
+    seat: &mut Recorder,
+    job: &[(&str, u64)],
+) -> Result<(), SetsFault> {
+    let mut needs = Vec::new(page.alloc);
+    for (name, amount) in job {
+        let need = match *name {
+            "orders" => orders_of(page.rt, provider.plan()).need(*amount),
+            _ => took_of(page, provider.plan(), name).need(*amount),
+        };
+        needs.push(need).or_fail(page.rt);
+    }
+    seat.at(page.rt, provider).has_room(needs.as_slice())
 }
 
-// A recorder, an instrument with its least value, how many it is granted before, and what it is told of work that is
-// counted twice; with how many recordings that made and what they come to.
-type Counting = (&'static str, &'static str, i64, u64, &'static str);
-
-const COUNTED: &[Counting] = &[
-    ("till", "active", -1, 0, "[Ok(()), Ok(())]\n(4, 0)\n"),
-    // Its budget is 3, and the inner work takes the last of it.
-    ("web", "active", -1, 0, "[Err(Budget), Ok(())]\n(3, 1)\n"),
-    ("web", "active", -1, 1, "[Ok(()), Ok(())]\n(4, 0)\n"),
-    (
-        "till",
-        "rising",
-        0,
-        0,
-        "[Err(ValueRange), Err(ValueRange)]\n(0, 0)\n",
-    ),
-];
-
-fn tell_counting<R: Abort + Wait>(
-    page: &mut Page<'_, R>,
-    (recorder, name, lo, granted, _): &Counting,
-) {
-    let mut service = shop(page.rt, page.alloc);
-    let mut seat = service.take(page.rt, recorder);
-    let provider = &service.provider;
-    let active = bound_of(page.rt, provider.plan(), "shop", name);
-    let asked = seat.ask(page.rt, provider, active.number(), *granted);
-    asked.or_fail(page.rt);
-    page.tell(count_twice(page.rt, provider, &mut seat, &active));
-    page.tell(made(page.rt, &seat, active.number(), *lo))
+// What is left to a recorder of another provider.
+fn foreign_room<R: Abort + Wait>(
+    page: &Page<'_, R>,
+    provider: &MeterProvider,
+    instrument: u32,
+) -> [Result<u64, Refusal>; 2] {
+    let mut other = shop(page.rt, page.alloc);
+    let stranger = other.take(page.rt, "web");
+    let told = stranger.room(page.rt, provider, instrument);
+    let own = stranger.room(page.rt, &other.provider, instrument);
+    drop(stranger);
+    [told, own]
 }
 
-#[test]
-fn a_count_comes_back(rt: HostRuntime) {
-    for counting in COUNTED {
-        let mut page = Page::new(&rt, rt.alloc());
-        tell_counting(&mut page, counting);
-        page.assert(counting.4);
+// The answer to an amount that is clamped.
+fn clamp<R: Abort + Wait>(
+    page: &Page<'_, R>,
+    provider: &MeterProvider,
+    seat: &mut Recorder,
+    replaced: &mut Replaced,
+    name: &str,
+    amount: i64,
+) -> Result<(), Refusal> {
+    let mut at = seat.at(page.rt, provider);
+    match name {
+        "orders" => {
+            let orders = orders_of(page.rt, provider.plan());
+            at.add_clamped(&orders, replaced, &[Attr::text("country", "de")], amount)
+        }
+        _ => {
+            let took = took_of(page, provider.plan(), name);
+            at.record_clamped(&took, replaced, &[], amount)
+        }
     }
 }
 
-// A plan of which nothing is of the shop's.
-fn strange<R: Abort>(rt: &R, alloc: Global) -> Plan {
-    certified_plan(alloc, OTHER, READERS).or_fail(rt)
+fn tell_step<R: Abort + Wait>(
+    page: &mut Page<'_, R>,
+    provider: &MeterProvider,
+    seat: &mut Recorder,
+    replaced: &mut Replaced,
+    step: &Step,
+) {
+    let rt = page.rt;
+    match step {
+        Step::Add(country, value) => {
+            let attrs = [Attr::text("country", country)];
+            let orders = orders_of(rt, provider.plan());
+            page.answer(seat.at(rt, provider).add(&orders, &attrs, *value))
+        }
+        Step::Grant(number, amount) => page.answer(seat.ask(rt, provider, *number, *amount)),
+        Step::Left(instrument) => {
+            let room = seat.room(rt, provider, *instrument);
+            page.tell([room, provider.spare_left(rt, *instrument)])
+        }
+        Step::Foreign(instrument) => {
+            let told = foreign_room(page, provider, *instrument);
+            page.tell(told)
+        }
+        Step::Twice(name) => page.tell(count_twice(rt, provider, seat, name)),
+        Step::Made(instrument, least) => page.tell(made(rt, seat, *instrument, *least)),
+        Step::Clamp(name, amount) => {
+            let answer = clamp(page, provider, seat, replaced, name, *amount);
+            page.tell(answer)
+        }
+        Step::Replaced => page.tell(*replaced),
+        Step::Room(job) => {
+            let answer = room_for(page, provider, seat, job);
+            page.tell(answer)
+        }
+    }
+}
+
+fn tell_case<R: Abort + Wait>(page: &mut Page<'_, R>, (recorder, steps, _): &Case) {
+    let mut service = shop(page.rt, page.alloc);
+    let mut seat = service.take(page.rt, recorder);
+    let mut replaced = Replaced::none();
+    for step in *steps {
+        tell_step(page, &service.provider, &mut seat, &mut replaced, step);
+    }
+    drop(seat)
+}
+
+#[test]
+fn a_seat_is_answered_step_by_step(rt: HostRuntime) {
+    for case in CASES {
+        let mut page = Page::new(&rt, rt.alloc());
+        tell_case(&mut page, case);
+        page.assert(case.2);
+    }
 }
 
 // Counts work that fails: it adds to orders of a country that is not declared.
@@ -305,56 +447,8 @@ fn a_count_comes_back_where_work_fails(rt: HostRuntime) {
     page.tell(seat.at(&rt, provider).during(&stranger, |_| 7));
     let refused = seat.refused(0, Refusal::UnknownValue);
     page.tell((refused, made(&rt, seat.seat(), 1, -1)));
+    drop(seat);
     page.assert(FAILING);
-}
-
-// Instruments with amounts, of which each is clamped to its instrument's range. The fourth of orders is beyond the budget,
-// and the last instrument is of another plan.
-const CLAMPED: &[(&str, i64)] = &[
-    ("orders", 0),
-    ("orders", 101),
-    ("orders", 100),
-    ("orders", 101),
-    ("took", 60001),
-    ("took", 0),
-    ("strange", 60001),
-];
-
-// The answers, what was replaced, and how many recordings of each came to what.
-const IN_RANGE: &str = "Ok(())
-Ok(())
-Ok(())
-Err(Budget)
-Ok(())
-Ok(())
-Err(Stranger)
-Replaced { values: 0, amounts: 3 }
-[(3, 201), (2, 60000)]
-";
-
-#[test]
-fn an_amount_is_clamped_to_the_range_of_its_own_instrument(rt: HostRuntime) {
-    let mut page = Page::new(&rt, rt.alloc());
-    let mut service = shop(&rt, rt.alloc());
-    let mut seat = service.take(&rt, "till");
-    let (plan, other) = (service.provider.plan(), strange(&rt, rt.alloc()));
-    let orders = orders_of(&rt, plan);
-    let took = histogram(plan, "shop", "took", &[]).or_fail(&rt);
-    let strange = histogram(&other, "other", "took", &[]).or_fail(&rt);
-    let mut replaced = Replaced::none();
-    let mut at = seat.at(&rt, &service.provider);
-    for (name, amount) in CLAMPED {
-        let german = [Attr::text("country", "de")];
-        page.tell(match *name {
-            "orders" => at.add_clamped(&orders, &mut replaced, &german, *amount),
-            "took" => at.record_clamped(&took, &mut replaced, &[], *amount),
-            _ => at.record_clamped(&strange, &mut replaced, &[], *amount),
-        });
-    }
-    drop(at);
-    page.tell(replaced);
-    page.tell([made(&rt, &seat, 0, 1), made(&rt, &seat, 3, 0)]);
-    page.assert(IN_RANGE);
 }
 
 // The timer of a histogram of a plan.
@@ -436,37 +530,5 @@ fn a_duration_is_no_shorter_than_its_work(rt: HostRuntime) {
         tell_timed(&mut page, &service.provider, &mut seat, &timer, *sleeps);
         page.assert(wanted);
     }
-}
-
-// What jobs are told: there is room for all of one, or none; of two needs of one instrument the sum is asked for.
-const ROOM: &str = "Ok(())
-Ok(())
-Ok(())
-Err(SetsFault { place: 1, refusal: Budget })
-Err(SetsFault { place: 1, refusal: Budget })
-Err(SetsFault { place: 1, refusal: Stranger })
-";
-
-#[test]
-fn a_job_has_room_for_all_of_it_or_none(rt: HostRuntime) {
-    let mut page = Page::new(&rt, rt.alloc());
-    let mut service = shop(&rt, rt.alloc());
-    let mut seat = service.take(&rt, "till");
-    let (plan, other) = (service.provider.plan(), strange(&rt, rt.alloc()));
-    let orders = orders_of(&rt, plan);
-    let took = histogram(plan, "shop", "took", &[]).or_fail(&rt);
-    let strange = histogram(&other, "other", "took", &[]).or_fail(&rt);
-    let at = seat.at(&rt, &service.provider);
-    let jobs = [
-        &[] as &[Need],
-        &[orders.need(1), took.need(1)],
-        &[orders.need(3), took.need(2)],
-        &[took.need(1), orders.need(2), orders.need(2)],
-        &[orders.need(1), took.need(3)],
-        &[orders.need(1), strange.need(1), took.need(3)],
-    ];
-    for job in jobs {
-        page.tell(at.has_room(job));
-    }
-    page.assert(ROOM);
+    drop(seat)
 }
