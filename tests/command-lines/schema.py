@@ -19,6 +19,7 @@ LINES = [
     "diff catalogue.toml config.toml next.toml moved.toml",
     "diff catalogue.toml config.toml large.toml config.toml",
     "diff catalogue.toml config.toml catalogue.toml config.toml",
+    "queries catalogue.toml config.toml queries.promql",
 ]
 
 
@@ -53,8 +54,12 @@ IS = {
 def schema():
     """The fields of each command, with their types."""
     page = (TOP / "docs/WORMWEEKLY.md").read_text(encoding="utf-8").partition("## Lines of JSON")[2].partition("## ")[0]
-    rows = re.findall(r"^\| `(\w+)` \| (.*) \|$", page, re.M)
-    return {name: [re.match(r"`(\w+)` (.*)", field).groups() for field in fields.split("; ")] for name, fields in rows}
+    rows = re.findall(r"^\| (`\w+`(?:, `\w+`)*) \| (.*) \|$", page, re.M)
+    return {
+        name: [re.match(r"`(\w+)` (.*)", field).groups() for field in fields.split("; ")]
+        for names, fields in rows
+        for name in re.findall(r"\w+", names)
+    }
 
 
 def wrong_of(fields, row):

@@ -159,6 +159,26 @@ single_app = with_rule (new_app (codes "expand")) (file_rule (codes "catalogue")
 abbrev pub expand_app : App
 expand_app = with_rule single_app output_rule
 
+-- paths of files behind all others, one at least
+abbrev pub files_rule : Text → Rule
+files_rule id = record (new_rule id) { action = Some Append; required = true; value_names = 1 }
+
+-- a command whose remarks have kinds, and one over queries
+abbrev pub concerned_app : App
+concerned_app =
+    with_rule
+    (with_rule (with_rule (pair_app (codes "queries")) (flag_rule (codes "json")))
+    (texts_rule (codes "deny")))
+    (texts_rule (codes "allow"))
+
+abbrev pub queries_app : App
+queries_app =
+    with_rule
+    (with_rule
+    (with_rule (with_rule concerned_app (text_rule (codes "as"))) (text_rule (codes "reader")))
+    (texts_rule (codes "label")))
+    (files_rule (codes "queries"))
+
 -- the program, with its version and without a command
 abbrev pub bare_app : App
 bare_app =
@@ -180,7 +200,9 @@ abbrev pub program_app : App
 program_app =
     with_subcommand
     (with_subcommand
+    (with_subcommand
     (with_subcommand (with_subcommand (with_subcommand second_app replay_app.top) draw_app.top)
     diff_app.top)
     report_app.top)
-    expand_app.top
+    expand_app.top)
+    queries_app.top

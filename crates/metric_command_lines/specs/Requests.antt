@@ -1,5 +1,5 @@
 -- What the words of a command line mean.
-use Rattle.std.specs.Prelude.{◌==◌, ◌&&◌, ◌||◌, Bool, false, not, List, [], Option, Some, None}
+use Rattle.std.specs.Prelude.{◌==◌, ◌&&◌, ◌||◌, Bool, true, false, not, List, [], Option, Some, None}
 use Rattle.std.specs.Prelude.{Result, codes, is_some, if◌then◌else◌, unwrap_or}
 use Rattle.std.specs.List.{before_first, list_any}
 use Rattle.std.specs.Option.{option_and_then, option_map_or}
@@ -21,6 +21,7 @@ use Rattle.metric_command_lines.specs.declared.wormweekly.request.Form.{Form}
 use Rattle.metric_command_lines.specs.declared.wormweekly.request.Form.TheVariants.{Replies, OtlpLines, OtlpBytes}
 use Rattle.metric_command_lines.specs.declared.wormweekly.request.Form.TheVariants.{Prometheus, OpenMetrics}
 use Rattle.metric_command_lines.specs.declared.wormweekly.request.Form.TheVariants.{OpenMetricsCreated}
+use Rattle.metric_promql.specs.Kinds.{is_query_kind}
 use Rattle.metric_command_lines.specs.Forms.{is_page}
 use Rattle.metric_command_lines.specs.Standard.{output_of, reads_twice}
 use Rattle.metric_command_lines.specs.declared.wormweekly.request.Options.{Options}
@@ -28,7 +29,7 @@ use Rattle.metric_command_lines.specs.declared.wormweekly.request.Request.{Reque
 use Rattle.metric_command_lines.specs.declared.wormweekly.request.Task.{Task}
 use Rattle.metric_command_lines.specs.declared.wormweekly.request.Task.TheVariants.{Lint, Show, Make, Check}
 use Rattle.metric_command_lines.specs.declared.wormweekly.request.Task.TheVariants.{Headroom, Replay, Draw, Diff}
-use Rattle.metric_command_lines.specs.declared.wormweekly.request.Task.TheVariants.{Expand, Report}
+use Rattle.metric_command_lines.specs.declared.wormweekly.request.Task.TheVariants.{Expand, Queries, Report}
 
 -- the command by its name
 abbrev pub task_of : Text → Task
@@ -42,6 +43,7 @@ task_of name =
     else if bytes_eq name (codes "diff") then Diff
     else if bytes_eq name (codes "report") then Report
     else if bytes_eq name (codes "expand") then Expand
+    else if bytes_eq name (codes "queries") then Queries
     else Draw
 
 -- an argument was given this word
@@ -67,9 +69,21 @@ abbrev pub forms_else : List Row → Bool
 forms_else rows =
     option_map_or (λ word. not (is_some (form_of word))) (first_of (codes "as") rows) false
 
--- a reader is named where no page is printed
-abbrev pub reads_else : List Row → Bool
-reads_else rows = is_some (first_of (codes "reader") rows) && not (is_page (form_in rows))
+-- the command is over the lines of pages, whatever is printed
+abbrev pub is_over_pages : Task → Bool
+is_over_pages Queries = true
+is_over_pages task = false
+
+-- a reader is named where no page is printed, nor asked about
+abbrev pub reads_else : Task → List Row → Bool
+reads_else task rows =
+    not (is_over_pages task)
+    && (is_some (first_of (codes "reader") rows) && not (is_page (form_in rows)))
+
+-- what is asked about is named, and is no page
+abbrev pub asks_for_no_page : Task → List Row → Bool
+asks_for_no_page task rows =
+    is_over_pages task && (is_some (first_of (codes "as") rows) && not (is_page (form_in rows)))
 
 -- the words of all uses of an option
 abbrev pub words_in : Text → List Row → List Text
@@ -78,6 +92,7 @@ words_in id rows = unwrap_or (all_of id rows) []
 -- a word is a kind of what the command tells: of change, or of remark
 abbrev pub is_concern : Task → Text → Bool
 is_concern Diff word = is_change word
+is_concern Queries word = is_query_kind word
 is_concern task word = bytes_eq word (codes "exposure") || is_kind word
 
 -- the word for all that may be denied
@@ -102,6 +117,7 @@ concerns_in rows = record {
   allowed = words_in (codes "allow") rows;
   denied = words_in (codes "deny") rows;
   outlets = words_in (codes "for") rows;
+  labels = words_in (codes "label") rows;
 }
 
 -- the way out that a word of `--for` names, before the reader where there is one
@@ -146,6 +162,7 @@ files_in rows = record {
   certificate = certificate_in rows;
   accepted = first_of (codes "accepted") rows;
   script = script_in rows;
+  queries = words_in (codes "queries") rows;
   output = output_of (first_of (codes "output") rows);
 }
 
@@ -166,12 +183,12 @@ resource_asked task rows = do
   _ ← require (not (denies_else task rows)) Deny
   _ ← require (not (allows_else task rows)) Allow
   _ ← require (not (outlets_else rows)) Outlet
-  _ ← require (not (forms_else rows)) misuses.Form
+  _ ← require (not (forms_else rows || asks_for_no_page task rows)) misuses.Form
   _ ← require (not (is_some (first_of (codes "as") rows)
       && has_word (codes "audit") (codes "true") rows)) Audit
   _ ← require (is_some (first_of (codes "as") rows)
       || not (is_some (first_of (codes "resource") rows))) Resource
-  _ ← require (not (reads_else rows)) misuses.Reader
+  _ ← require (not (reads_else task rows)) misuses.Reader
   _ ← require (not (reads_twice (files_in rows))) Input
   resource_in (words_in (codes "resource") rows)
 

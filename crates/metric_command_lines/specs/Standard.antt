@@ -1,5 +1,5 @@
 -- Standard input and standard output, where files are named.
-use Rattle.std.specs.Prelude.{Bool, false, ℕ, List, [], ◌∷◌, Option, Some, None, codes, nat_lt, sum}
+use Rattle.std.specs.Prelude.{Bool, false, ℕ, List, [], ◌∷◌, Option, Some, None, codes, count_by, nat_lt, sum, ◌+◌}
 use Rattle.std.specs.Prelude.{if◌then◌else◌, map}
 use Rattle.std.specs.Option.{option_and_then, option_map_or}
 use Rattle.std.specs.Str.{bytes_eq}
@@ -16,7 +16,7 @@ is_standard path = bytes_eq path (codes "-")
 abbrev pub output_of : Option Text → Option Text
 output_of path = option_and_then (λ p. if is_standard p then None else Some p) path
 
--- the paths of the files that a command reads
+-- the paths of the files that a command reads, but for those of queries
 abbrev pub inputs_of : Files → List (Option Text)
 inputs_of files =
     files.old_catalogue ∷ files.old_config ∷ Some files.catalogue ∷ Some files.config
@@ -28,4 +28,5 @@ times_of path = if option_map_or is_standard path false then 1 else 0
 
 -- standard input, which can be read once, is named more often
 abbrev pub reads_twice : Files → Bool
-reads_twice files = nat_lt 1 (sum (map times_of (inputs_of files)))
+reads_twice files =
+    nat_lt 1 (sum (map times_of (inputs_of files)) + count_by is_standard files.queries)

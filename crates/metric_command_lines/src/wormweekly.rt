@@ -6,6 +6,7 @@ mod commands;
 mod diff_command;
 mod expand_command;
 mod fault;
+mod queries_command;
 mod reading;
 mod report_command;
 mod request;

@@ -116,6 +116,7 @@ fn work_of(request: &Result<Request, RequestFault>) -> &'static str {
             Task::Replay => "replaying",
             Task::Diff => "comparing",
             Task::Draw => "drawing",
+            Task::Queries => "judging queries",
             Task::Lint | Task::Show | Task::Headroom | Task::Report | Task::Expand => "working",
         },
         Err(_) => "working",

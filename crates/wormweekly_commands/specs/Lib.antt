@@ -15,6 +15,7 @@ pub mod PageReaders
 pub mod Paging
 pub mod Readings
 pub mod Reporting
+pub mod Queries
 pub mod Runs
 pub mod Series
 pub mod Tables

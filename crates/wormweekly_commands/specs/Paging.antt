@@ -1,5 +1,7 @@
 -- The page that a replay prints.
 use Rattle.std.specs.Prelude.{◌≡◌, ◌⊎◌, ℕ, Bool, List, [], ◌∷◌, Option, Some, None, Result, Ok, Err}
+use Rattle.std.specs.List.{flat_map}
+use Rattle.std.specs.Option.{option_map_or, option_to_list}
 use Rattle.metric_parts.specs.declared.parts.Parts.{Parts}
 use Rattle.metric_contents.specs.declared.attributes.OwnedAttr.{OwnedAttr}
 use Rattle.metric_contents.specs.declared.contents.Contents.{Contents}
@@ -8,12 +10,13 @@ use Rattle.metric_views.specs.declared.stream.Stream.{Stream}
 use Rattle.metric_history.specs.declared.batch.Batch.{Batch}
 use Rattle.metric_plan.specs.Plans.{PlanValue}
 use Rattle.metric_resolve.specs.Resolved.{streams_of}
-use Rattle.metric_exposition.specs.Expositions.{exposition}
-use Rattle.metric_exposition.specs.Pages.{end_text}
+use Rattle.metric_exposition.specs.Pages.{end_text, page_lines}
+use Rattle.metric_exposition.specs.Sections.{batch_sections}
 use Rattle.metric_exposition.specs.TargetFaults.{target_check}
 use Rattle.metric_exposition.specs.Targets.{target_text}
 use Rattle.metric_exposition.specs.declared.dialect.Dialect.{Dialect}
 use Rattle.metric_exposition.specs.declared.dialect.Dialect.TheVariants as dialects
+use Rattle.metric_exposition.specs.declared.section.Section.{Section}
 use Rattle.metric_exposition.specs.declared.target.TargetFault.{TargetFault}
 use Rattle.metric_exposition.specs.declared.target.TargetFault.TheVariants as targets
 use Rattle.metric_exposure.specs.Exposures.{exposure_faults}
@@ -105,15 +108,21 @@ IsHead dialect resource (Err (Page fault)) = label_fault (target_check resource)
 IsHead dialect resource (Err (Kit fault)) = fault ≡ Memory
 IsHead dialect resource (Err _) = ⊥
 
--- the lines of a batch of a plan
-abbrev pub page_lines : Dialect → PlanValue → Batch → List ℕ
-page_lines dialect plan batch = exposition dialect plan.facts.contents plan.streams batch
+-- the sections of the batch of an instrument, none where there is none
+abbrev pub sections_of : Dialect → PlanValue → Option Batch → List Section
+sections_of dialect plan batch =
+    option_map_or (batch_sections dialect plan.facts.contents plan.streams) batch []
+
+-- the lines of the batches of a plan, those of one family together
+abbrev pub plan_lines : Dialect → PlanValue → List (Option Batch) → List ℕ
+plan_lines dialect plan batches =
+    page_lines dialect plan.facts.contents plan.streams (flat_map option_to_list batches)
 
 -- The replay of parts, of which a page is written.
 abbrev pub IsPageReplay : Dialect → ℕ → List ℕ → List ℕ → Bool → Parts → SinkRun
     → Result (Unit {0}) KitFault → Type 0
 IsPageReplay dialect reader head tail trial parts sink result =
-    RunsParts (IsPage (page_lines dialect) reader head tail (plain_options trial) parts)
+    RunsParts (IsPage (plan_lines dialect) reader head tail (plain_options trial) parts)
     (λ fault. IsReplayFault (plain_options trial) fault parts) sink result
 
 -- The page of a reader behind a head, or out of memory before it.

@@ -1,13 +1,14 @@
 -- What running a request does.
-use Rattle.std.specs.Prelude.{◌≡◌, ◌≢◌, ◌⊎◌, ℕ, Bool, true, not, List, Option, Some, None, Result, Ok}
-use Rattle.std.specs.Prelude.{Err, IfErr, IfOk, IfSome, IsErr, IsErrAnd, IsSomeAnd, OnErr, is_some, string_bytes}
+use Rattle.std.specs.Prelude.{◌≡◌, ◌≢◌, ◌⊎◌, ℕ, Bool, false, true, not, List, Option, Some, None, Result, Ok}
+use Rattle.std.specs.Prelude.{Err, IfErr, IfOk, IfSome, IsErr, IsErrAnd, IsOkAnd, IsSomeAnd, OnErr, is_some, string_bytes}
 use Rattle.metric_contents.specs.declared.contents.Contents.{Contents}
 use Rattle.metric_catalogue.specs.Catalogues.{catalogue_of, opened_of}
+use Rattle.metric_catalogue.specs.InFull.{fits_in_full}
 use Rattle.metric_parts.specs.declared.parts.Parts.{Parts}
 use Rattle.metric_command_lines.specs.declared.wormweekly.request.Files.{Files}
 use Rattle.metric_command_lines.specs.declared.wormweekly.request.Request.{Request}
 use Rattle.metric_command_lines.specs.declared.wormweekly.request.Task.{Task}
-use Rattle.metric_command_lines.specs.declared.wormweekly.request.Task.TheVariants.{Replay, Diff, Draw, Expand}
+use Rattle.metric_command_lines.specs.declared.wormweekly.request.Task.TheVariants.{Replay, Diff, Draw, Expand, Queries}
 use Rattle.metric_command_lines.specs.declared.wormweekly.request.Task.TheVariants as tasks
 use Rattle.metric_exposition.specs.declared.dialect.Dialect.{Dialect}
 use Rattle.metric_kit_commands.specs.Commands.{SinkRun}
@@ -22,6 +23,7 @@ use Rattle.wormweekly_commands.specs.Folders.{MadeFile}
 use Rattle.wormweekly_commands.specs.Inputs.{IsReplayIn, scripted}
 use Rattle.wormweekly_commands.specs.PageReaders.{LacksReader}
 use Rattle.wormweekly_commands.specs.Paging.{ReplaysPage, dialect_of}
+use Rattle.wormweekly_commands.specs.Queries.{RunsQueries}
 use Rattle.wormweekly_commands.specs.Readings.{AreTexts, IsHeld}
 use Rattle.wormweekly_commands.specs.Reporting.{IsReport, RefusesReport, RefusesWhole}
 use Rattle.wormweekly_commands.specs.declared.answer.Answer.{Answer}
@@ -181,8 +183,11 @@ pub record RunsTexts (request : Request) (texts : Texts) (writing : Writing) (si
       × (writing.made_after ≡ writing.made)
   pub reported : request.task ≡ tasks.Report → RunsReport request texts writing end
   pub drawn : request.task ≡ Draw → RunsDraw request texts writing end
+  pub queried : request.task ≡ Queries
+      → RunsQueries request texts writing.contents writing.contents_after end
+      × (writing.made_after ≡ writing.made)
   pub answered : request.task ≢ Replay → request.task ≢ Diff → request.task ≢ tasks.Report
-      → request.task ≢ Draw → RunsAnswer request texts.parts writing end
+      → request.task ≢ Draw → request.task ≢ Queries → RunsAnswer request texts.parts writing end
 
 -- The texts of the files, with what running the command on them comes to.
 pub record RunsRead (held : List ℕ → Option (List ℕ)) (request : Request) (writing : Writing)
@@ -275,7 +280,8 @@ pub record IsExpanded (known : Known) (files : Files) (writing : Writing) : Type
 -- The fault is the first of a catalogue; or it is too large in full, or memory ran out.
 abbrev pub IsFullFault : List ℕ → ConsoleFault → Type 0
 IsFullFault source (Kit (kit.Catalogue fault)) = opened_of source ≡ Err fault
-IsFullFault source (Unread Catalogue unread.TooLarge) = Unit {0}
+IsFullFault source (Unread Catalogue unread.TooLarge) =
+    IsOkAnd (opened_of source) (λ contents. fits_in_full contents ≡ false)
 IsFullFault source (Unread Catalogue unread.Memory) = Unit {0}
 IsFullFault source _ = ⊥
 

@@ -1,6 +1,6 @@
 //! The command that prints a catalogue in full.
-ghost use Rattle.std.specs.Prelude.{◌≡◌, Ok, IfErr, IfOk, IsSomeAnd, OnOk, false, string_bytes};
-ghost use Rattle.metric_catalogue.specs.Catalogues.{catalogue_of};
+ghost use Rattle.std.specs.Prelude.{◌≡◌, ℕ, List, Ok, IfErr, IfOk, IsSomeAnd, OnOk, false, string_bytes};
+ghost use Rattle.metric_catalogue.specs.Catalogues.{catalogue_of, opened_of};
 ghost use Rattle.wormweekly_commands.specs.Readings.{IsHeld};
 ghost use Rattle.wormweekly_commands.specs.Runs.{ExpandsFile, IsFullFault, IsInFull, known_by, writing};
 
@@ -113,19 +113,18 @@ fn full_of(alloc: Global, text: &str) -> Result<String, ConsoleFault>
     ensures first { IfErr result (IsFullFault text.now) }
 {
     match Catalogue::open(alloc, text) {
-        Ok(catalogue) => in_full(alloc, text, &catalogue),
+        Ok(catalogue) => in_full(alloc, &catalogue),
         Err(CatalogueFault::Memory) => Err(unread(Unread::Memory)),
         Err(fault) => Err(ConsoleFault::Kit(KitFault::Catalogue(fault))),
     }
 }
 
-// The catalogue that a text was opened as, in full.
-fn in_full(alloc: Global, text: &str, catalogue: &Catalogue) -> Result<String, ConsoleFault>
+// A catalogue that was opened, in full.
+fn in_full(alloc: Global, catalogue: &Catalogue) -> Result<String, ConsoleFault>
     ensures ok { IfOk result (λ printed. catalogue_of (string_bytes printed) ≡ Ok catalogue.now) }
-    ensures first { IfErr result (IsFullFault text.now) }
+    ensures first { (text : List ℕ) → opened_of text ≡ Ok catalogue.now
+        → IfErr result (IsFullFault text) }
 {
-    // Only the contract speaks of the text.
-    let _ = text;
     match catalogue.in_full(alloc) {
         Ok(Some(printed)) => Ok(printed),
         Ok(None) => Err(unread(Unread::TooLarge)),

@@ -26,6 +26,11 @@ pub enum Role {
     Accepted,
     /// The script.
     Script,
+    /// The queries of this number.
+    Queries {
+        /// The number of the file among those of queries.
+        number: usize,
+    },
 }
 
 /// Why a replay prints no page.

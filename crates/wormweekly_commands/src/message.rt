@@ -89,14 +89,21 @@ impl Sheet for Message {
     fn row(&self, alloc: Global, _number: usize) -> Result<Vec<Cell>, AllocError> {
         let mut row = Row::new(alloc);
         row.text("fault");
+        self.put_place(&mut row);
+        row.cells()
+    }
+}
+
+impl Message {
+    /// Puts the file, the place and the cause last.
+    pub(crate) fn put_place(&self, row: &mut Row) {
         if self.file.is_empty() {
             row.nothing();
         } else {
             row.text(self.file.as_str());
         }
-        put_position(&mut row, self.position);
+        put_position(row, self.position);
         row.text(self.words.as_str());
-        row.cells()
     }
 }
 

@@ -88,8 +88,8 @@ fn note_at(
     Ok(note)
 }
 
-// Writes how many more remarks there are, where there are any.
-fn print_more<W: Sink>(alloc: Global, sink: &mut W, more: usize) -> Result<(), KitFault>
+/// Writes how many more remarks there are, where there are any.
+pub(crate) fn print_more<W: Sink>(alloc: Global, sink: &mut W, more: usize) -> Result<(), KitFault>
     ensures { IfErr result IsDeviceFault }
 {
     if more == 0 {

@@ -1,5 +1,5 @@
 //! A script replayed, of which the page of a reader is printed.
-ghost use Rattle.std.specs.Prelude.{◌≡◌, ◌≤◌, IfOk, Ok, length};
+ghost use Rattle.std.specs.Prelude.{◌≡◌, ◌≤◌, IfOk, Ok, length, map};
 ghost use Rattle.metric_kit_commands.specs.Commands.{HasNeeded, sink_run};
 ghost use Rattle.metric_kit_commands.specs.Replaying.{needs_of, plain_options};
 ghost use Rattle.metric_exposition.specs.Pages.{end_text};
@@ -7,19 +7,20 @@ ghost use Rattle.metric_exposition.specs.TargetFaults.{target_check};
 ghost use Rattle.metric_exposition.specs.Targets.{target_text};
 ghost use Rattle.wormweekly_commands.specs.Paging.{IsHead, IsPageEnd, IsReaderFound, IsReaderRead, ReplaysPage};
 ghost use Rattle.wormweekly_commands.specs.PageReaders.{reader_asked};
-ghost use Rattle.wormweekly_commands.specs.Paging.{dialect_of, exposed, exposed_by, of_target, page_reader};
+ghost use Rattle.wormweekly_commands.specs.Paging.{dialect_of, exposed, exposed_by, of_target, page_reader, sections_of};
 
 use crate::fault::{ConsoleFault, PageFault};
 use crate::page_readers::reader_asked;
 use metric_base::{Items, Text};
 use metric_catalogue::Catalogue;
 use metric_command_lines::{Form, Request};
-use metric_export::Encoding;
-use metric_exposition::{Dialect, TargetFault, push_end, push_exposition, push_target};
+use metric_exposition::{
+    Dialect, Section, TargetFault, batch_sections, push_end, push_gathered, push_target,
+};
 use metric_exposure::{ExposureFault, Outlet, exposure_faults};
 use metric_history::Batch;
 use metric_io::Sink;
-use metric_kit_commands::{KitFault, PageForm, declared_of, replay_page};
+use metric_kit_commands::{KitFault, PageEncoding, PageForm, declared_of, replay_page};
 use metric_parts::Parts;
 use metric_plan::Plan;
 use metric_resolve::resolve_streams;
@@ -39,30 +40,57 @@ pub(crate) fn dialect_of(form: Form) -> Option<Dialect>
     }
 }
 
-// How a batch is written in a page.
+// How batches are written in a page.
 #[derive(Clone, Copy)]
 struct Lines {
     dialect: Dialect,
 }
 
-impl Encoding for Lines {
+impl PageEncoding for Lines {
     ghost use Rattle.wormweekly_commands.specs.PageLines.{lines_text};
 
     ghost text = { lines_text };
 
-    fn takes(&self, _plan: u64, _reader: u32) -> bool {
-        true
-    }
-
-    fn push(
+    fn push_page(
         &self,
         alloc: Global,
         out: &mut Vec<u8>,
         plan: &Plan,
-        batch: &Batch,
+        batches: &[Option<Batch>],
     ) -> Result<(), AllocError> {
-        let (catalogue, streams) = (plan.catalogue(), plan.streams());
-        push_exposition(alloc, out, self.dialect, catalogue, streams, batch)
+        let sections = all_sections(alloc, self.dialect, plan, batches)?;
+        push_gathered(alloc, out, sections.as_slice())
+    }
+}
+
+// The sections of each batch.
+fn all_sections(
+    alloc: Global,
+    dialect: Dialect,
+    plan: &Plan,
+    batches: &[Option<Batch>],
+) -> Result<Vec<Items<Section>>, AllocError>
+    ensures { IfOk result (λ all. all.items ≡ map (sections_of dialect plan.now) batches.now) }
+{
+    let mut all = Vec::new(alloc);
+    for batch in batches {
+        all.push(sections_of(alloc, dialect, plan, batch)?)?;
+    }
+    Ok(all)
+}
+
+// Those of a batch, where there is one.
+fn sections_of(
+    alloc: Global,
+    dialect: Dialect,
+    plan: &Plan,
+    batch: &Option<Batch>,
+) -> Result<Items<Section>, AllocError>
+    ensures { IfOk result (λ sections. sections ≡ sections_of dialect plan.now batch.now) }
+{
+    match batch {
+        Some(batch) => batch_sections(alloc, dialect, plan.catalogue(), plan.streams(), batch),
+        None => Ok(Items::new(alloc)),
     }
 }
 
@@ -193,8 +221,8 @@ fn page_reader(
     reader_in(alloc, name, catalogue, config.readers(), streams.as_slice())
 }
 
-// The same of the streams of all readers.
-fn reader_in(
+/// The same of the streams of all readers.
+pub(crate) fn reader_in(
     alloc: Global,
     name: &Option<Text>,
     catalogue: &Catalogue,

@@ -24,6 +24,7 @@ use crate::folder::{Folder, Unread};
 use crate::page_readers::check_readers;
 use crate::paging::{dialect_of, replay_as_page};
 use crate::parts::{Texts, texts_of};
+use crate::queries::run_queries;
 use crate::refused::tell_refused;
 use crate::replaying::{is_trial, replay_in_form, scripted};
 use crate::report::report_of;
@@ -179,6 +180,8 @@ fn run_texts<F: Folder, W: Sink, E: Sink>(
         run_report(alloc, request, texts, folder, sink)
     } else if request.task == Task::Draw {
         run_draw(alloc, request, texts, folder, sink)
+    } else if request.task == Task::Queries {
+        run_queries(alloc, request, texts, folder, sink, errors)
     } else {
         run_answer(alloc, request, texts, columns, folder, sink, errors)
     }
@@ -200,6 +203,7 @@ fn run_answer<F: Folder, W: Sink, E: Sink>(
     requires long { request.now.task ≢ Task.Expand }
     requires answer { request.now.task ≢ Task.Report }
     requires picture { request.now.task ≢ Task.Draw }
+    requires queries { request.now.task ≢ Task.Queries }
     ensures ok { IfOk result (Answers request.now texts.now.parts
         (writing F.made W.contents folder.old folder.new sink.old sink.new)) }
     ensures first { IfErr result (RefusesFor request.now texts.now.parts) }

@@ -253,6 +253,10 @@ fn named(files: &Files, role: Role) -> &str {
             Some(path) => path.as_str(),
             None => "script",
         },
+        Role::Queries { number } => match files.queries.as_slice().get(number) {
+            Some(path) => path.as_str(),
+            None => "queries",
+        },
     }
 }
 

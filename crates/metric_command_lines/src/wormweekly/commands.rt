@@ -9,6 +9,7 @@ use crate::programs::with_command;
 use crate::wormweekly::arguments::{file, flag, number, output, text, texts};
 use crate::wormweekly::diff_command::diff;
 use crate::wormweekly::expand_command::expand;
+use crate::wormweekly::queries_command::queries;
 use crate::wormweekly::report_command::{over_change, report};
 use clap::{Arg, Command};
 use std::alloc::{AllocError, Global};
@@ -74,7 +75,8 @@ pub(crate) fn program<'a>(alloc: Global) -> Result<Command<'a>, AllocError>
     let program = with_command(program, draw(alloc));
     let program = with_command(program, diff(alloc));
     let program = with_command(program, report(alloc));
-    with_command(program, expand(alloc))
+    let program = with_command(program, expand(alloc));
+    with_command(program, queries(alloc))
 }
 
 fn second<'a>(alloc: Global) -> Result<Command<'a>, AllocError>

@@ -7,7 +7,7 @@ ghost use Rattle.metric_command_lines.specs.Attributes.{resource_in};
 ghost use Rattle.metric_command_lines.specs.RequestFaults.{IsAllowed, IsMisuse, IsNoRequest, IsNotAsked, IsOwn};
 ghost use Rattle.metric_command_lines.specs.Standard.{output_of};
 ghost use Rattle.metric_command_lines.specs.Requests.{certificate_in, denies_else, files_in, form_in, form_of, forms_else, has_word, old_in, options_in, request_in, resource_asked, script_in, task_of, text_in};
-ghost use Rattle.metric_command_lines.specs.Requests.{all_word, allows_else, concerns_in, is_concern, is_denied, is_outlet, outlets_else, reads_else, words_in};
+ghost use Rattle.metric_command_lines.specs.Requests.{all_word, allows_else, concerns_in, asks_for_no_page, is_concern, is_denied, is_outlet, outlets_else, reads_else, words_in};
 
 use crate::numbers::number_of;
 use crate::wormweekly::attributes::{key_and_value, resource_of};
@@ -19,6 +19,7 @@ use clap::ArgMatches;
 use metric_base::{Items, Text};
 use metric_diff::is_change;
 use metric_lint::is_kind;
+use metric_promql::is_query_kind;
 use metric_resource::Resource;
 use std::alloc::{AllocError, Global};
 
@@ -115,7 +116,7 @@ fn resource_asked(
     if outlets_else(arguments) {
         return Err(RequestFault::Misused(Misuse::Outlet));
     }
-    if forms_else(arguments) {
+    if forms_else(arguments) || asks_for_no_page(task, arguments) {
         return Err(RequestFault::Misused(Misuse::Form));
     }
     if has_text(arguments, "as") && has_word(arguments, "audit", "true") {
@@ -124,7 +125,7 @@ fn resource_asked(
     if !has_text(arguments, "as") && has_text(arguments, "resource") {
         return Err(RequestFault::Misused(Misuse::Resource));
     }
-    if reads_else(arguments) {
+    if reads_else(task, arguments) {
         return Err(RequestFault::Misused(Misuse::Reader));
     }
     if reads_twice(files) {
@@ -133,19 +134,27 @@ fn resource_asked(
     resource_given(alloc, arguments)
 }
 
-// Whether a reader is named where no page is printed.
-fn reads_else(arguments: &ArgMatches<'_>) -> bool
-    ensures { result ≡ reads_else (rows_of (found_of arguments.now)) }
+// Whether a reader is named where no page is printed; queries are always of pages.
+fn reads_else(task: Task, arguments: &ArgMatches<'_>) -> bool
+    ensures { result ≡ reads_else task (rows_of (found_of arguments.now)) }
 {
-    has_text(arguments, "reader") && !form_in(arguments).is_page()
+    task != Task::Queries && has_text(arguments, "reader") && !form_in(arguments).is_page()
+}
+
+// Whether queries are to be held against what is no page.
+fn asks_for_no_page(task: Task, arguments: &ArgMatches<'_>) -> bool
+    ensures { result ≡ asks_for_no_page task (rows_of (found_of arguments.now)) }
+{
+    task == Task::Queries && has_text(arguments, "as") && !form_in(arguments).is_page()
 }
 
 // The resource that the words of all uses of `--resource` give.
 fn resource_given(alloc: Global, arguments: &ArgMatches<'_>) -> Result<Resource, RequestFault>
     ensures given { IfOk result (λ resource.
-        resource_in (words_in (codes "resource") (rows_of (found_of arguments.now))) ≡ Ok resource) }
-    ensures refused { IfErr result (λ fault.
-        IsMisuse fault (resource_in (words_in (codes "resource") (rows_of (found_of arguments.now))))) }
+        resource_in (words_in (codes "resource") (rows_of (found_of arguments.now)))
+        ≡ Ok resource) }
+    ensures refused { IfErr result (λ fault. IsMisuse fault
+        (resource_in (words_in (codes "resource") (rows_of (found_of arguments.now))))) }
 {
     match arguments.get_strs("resource") {
         Some(words) => resource_of(alloc, words),
@@ -208,6 +217,7 @@ fn task_of(command: &str) -> Task
         "diff" => Task::Diff,
         "report" => Task::Report,
         "expand" => Task::Expand,
+        "queries" => Task::Queries,
         _ => Task::Draw,
     }
 }
@@ -222,6 +232,7 @@ fn files_of(alloc: Global, arguments: &ArgMatches<'_>) -> Result<Files, AllocErr
     let certificate = certificate_of(alloc, arguments)?;
     let accepted = optional(alloc, arguments, "accepted")?;
     let script = script_of(alloc, arguments)?;
+    let queries = words_in(alloc, arguments, "queries")?;
     let output = output_in(alloc, arguments)?;
     Ok(Files {
         old_catalogue,
@@ -231,6 +242,7 @@ fn files_of(alloc: Global, arguments: &ArgMatches<'_>) -> Result<Files, AllocErr
         certificate,
         accepted,
         script,
+        queries,
         output,
     })
 }
@@ -375,6 +387,7 @@ fn is_concern(task: Task, word: &str) -> bool
 {
     match task {
         Task::Diff => is_change(word),
+        Task::Queries => is_query_kind(word),
         _ => word == "exposure" || is_kind(word),
     }
 }
@@ -386,10 +399,12 @@ fn concerns_in(alloc: Global, arguments: &ArgMatches<'_>) -> Result<Concerns, Al
     let allowed = words_in(alloc, arguments, "allow")?;
     let denied = words_in(alloc, arguments, "deny")?;
     let outlets = words_in(alloc, arguments, "for")?;
+    let labels = words_in(alloc, arguments, "label")?;
     Ok(Concerns {
         allowed,
         denied,
         outlets,
+        labels,
     })
 }
 

@@ -28,6 +28,8 @@ pub enum Task {
     Report,
     /// Print a catalogue of format 3 as the catalogue of format 2 that it means.
     Expand,
+    /// Print what queries ask for that no page can have.
+    Queries,
 }
 
 /// The paths of the files that a command reads and writes. One of those that are read may be `-`, standard input.
@@ -47,6 +49,8 @@ pub struct Files {
     pub accepted: Option<Text>,
     /// Where the script is, where the command has one.
     pub script: Option<Text>,
+    /// Where the queries are, where the command has such files.
+    pub queries: Items<Text>,
     /// The file to write to, in place of standard output; never `-`, which is that.
     pub output: Option<Text>,
 }
@@ -108,6 +112,8 @@ pub struct Concerns {
     pub denied: Items<Text>,
     /// The ways out for which remarks are made: `prometheus` or `otlp`, or one of them with `=` and the name of a reader.
     pub outlets: Items<Text>,
+    /// The labels that a server adds to each line, beside `job` and `instance`.
+    pub labels: Items<Text>,
 }
 
 /// What a command line asks for.

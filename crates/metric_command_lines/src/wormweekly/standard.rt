@@ -1,9 +1,9 @@
 //! Standard input and standard output, where files are named.
-ghost use Rattle.std.specs.Prelude.{◌≡◌, ◌≤◌, IfOk, Some, option_map};
+ghost use Rattle.std.specs.Prelude.{◌≡◌, ◌≤◌, IfOk, Some, count_by, option_map};
 ghost use Rattle.metric_command_lines.specs.Standard.{is_standard, output_of, reads_twice, times_of};
 
 use crate::wormweekly::request::Files;
-use metric_base::Text;
+use metric_base::{Items, Text};
 use std::alloc::{AllocError, Global};
 
 /// Whether a path is no file, but standard input where it is read, and standard output where it is written: `-`.
@@ -30,7 +30,24 @@ pub(crate) fn reads_twice(files: &Files) -> bool
     let old = times_of(&files.old_catalogue) + times_of(&files.old_config);
     let new = times_at(&files.catalogue) + times_at(&files.config);
     let beside = times_of(&files.certificate) + times_of(&files.accepted);
-    old + new + beside + times_of(&files.script) > 1
+    let times = old + new + beside + times_of(&files.script);
+    let queries = standard_count(&files.queries);
+    match times {
+        0 => queries > 1,
+        1 => queries > 0,
+        _ => true,
+    }
+}
+
+// How many of some paths are standard input.
+fn standard_count(paths: &Items<Text>) -> usize
+    ensures { result ≡ count_by is_standard paths.now }
+{
+    paths
+        .as_slice()
+        .iter()
+        .filter(|path| is_standard(path.as_str()))
+        .count()
 }
 
 // 1 for standard input, else 0.

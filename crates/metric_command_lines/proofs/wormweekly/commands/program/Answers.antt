@@ -7,4 +7,5 @@ returns c =
     let draw = c.with_command-program-2.ensures _ _ replay c.draw.ensures.app c.draw.ensures.local in
     let diff = c.with_command-program-3.ensures _ _ draw c.diff.ensures.app c.diff.ensures.local in
     let report = c.with_command-program-4.ensures _ _ diff c.report.ensures.app c.report.ensures.local in
-    c.with_command.ensures _ _ report c.expand.ensures.app c.expand.ensures.local
+    let expand = c.with_command-program-5.ensures _ _ report c.expand.ensures.app c.expand.ensures.local in
+    c.with_command.ensures _ _ expand c.queries.ensures.app c.queries.ensures.local

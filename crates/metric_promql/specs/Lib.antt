@@ -1,0 +1,4 @@
+pub mod Kinds
+pub mod Selectors
+pub mod Files
+pub mod Places

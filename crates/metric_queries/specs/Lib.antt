@@ -1,0 +1,4 @@
+pub mod Tests
+pub mod Samples
+pub mod Matching
+pub mod ByKeys

@@ -1,0 +1,84 @@
+//! How a matcher tests the text of a label.
+ghost use Rattle.std.specs.Prelude.{◌≡◌, ◌++◌, codes, IfOk, IfSome, MatchOption, is_some, string_bytes};
+ghost use Rattle.regex.specs.Patterns.{find_str};
+ghost use Rattle.regex.specs.Strings.{regex_pattern};
+ghost use Rattle.metric_queries.specs.Tests.{IsExpression, IsReadFrom, IsTestOf, anchored, takes};
+
+use metric_base::Text;
+use metric_promql::{LabelTest, Sign};
+use regex::{Error, Regex};
+use std::alloc::{AllocError, Global};
+
+/// The test of a matcher.
+#[derive(Drop)]
+pub enum Test {
+    /// The text is this one.
+    Is(Text),
+    /// It is another one.
+    IsNot(Text),
+    /// The expression matches it.
+    Like(Regex),
+    /// The expression does not match it.
+    Unlike(Regex),
+}
+
+/// The test of a matcher; nothing where its expression cannot be read, or is too large. Fails only when out of memory.
+pub fn test_of(alloc: Global, test: &LabelTest) -> Result<Option<Test>, AllocError>
+    ensures { IfOk result (λ found. MatchOption found
+        (IsExpression test.now.sign) (IsTestOf test.now.sign test.now.text)) }
+{
+    let text = test.text.as_str();
+    match test.sign {
+        Sign::Equal => Ok(Some(Test::Is(Text::new(alloc, text)?))),
+        Sign::NotEqual => Ok(Some(Test::IsNot(Text::new(alloc, text)?))),
+        Sign::Like => match expression_of(alloc, text)? {
+            Some(regex) => Ok(Some(Test::Like(regex))),
+            None => Ok(None),
+        },
+        Sign::Unlike => match expression_of(alloc, text)? {
+            Some(regex) => Ok(Some(Test::Unlike(regex))),
+            None => Ok(None),
+        },
+    }
+}
+
+// The expression of a text, which has to match all of what it is asked of.
+fn expression_of(alloc: Global, text: &str) -> Result<Option<Regex>, AllocError>
+    ensures { IfOk result (λ found. IfSome found (IsReadFrom text.now)) }
+{
+    let source = anchored(alloc, text)?;
+    match Regex::new(alloc, source.as_str()) {
+        Ok(regex) => Ok(Some(regex)),
+        Err(Error::OutOfMemory) => Err(AllocError),
+        Err(_) => Ok(None),
+    }
+}
+
+fn anchored(alloc: Global, text: &str) -> Result<String, AllocError>
+    ensures { IfOk result (λ source. string_bytes source ≡ anchored text.now) }
+{
+    let mut source = String::from_str(alloc, "^(?s:")?;
+    source.push_str(text)?;
+    source.push_str(")$")?;
+    Ok(source)
+}
+
+/// Whether a test takes a text. Fails only when out of memory.
+pub fn takes(alloc: Global, test: &Test, text: &str) -> Result<bool, AllocError>
+    ensures { IfOk result (λ answer. answer ≡ takes test.now text.now) }
+{
+    match test {
+        Test::Is(wanted) => Ok(wanted.as_str() == text),
+        Test::IsNot(wanted) => Ok(wanted.as_str() != text),
+        Test::Like(regex) => is_like(alloc, regex, text),
+        Test::Unlike(regex) => Ok(!is_like(alloc, regex, text)?),
+    }
+}
+
+fn is_like(alloc: Global, regex: &Regex, text: &str) -> Result<bool, AllocError>
+    ensures { IfOk result (λ answer.
+        answer ≡ is_some (find_str (regex_pattern regex.now) text.now 0)) }
+{
+    let mut matcher = regex.matcher(alloc)?;
+    Ok(matcher.is_match(text))
+}
