@@ -1,15 +1,15 @@
 mod Turns
 mod Firsts
 mod Kept
-mod Passing
+pub mod Passing
 mod Rising
-mod Series
+pub mod Series
 mod Claimed
 mod Ends
 mod Places
 mod Pigeons
 mod Chain
-mod Shown
+pub mod Shown
 mod KeyTurns
 mod FirstFault
 pub mod PointsApart
