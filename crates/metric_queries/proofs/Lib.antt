@@ -1,3 +1,4 @@
 mod Pairs
 mod Texts
 mod Marks
+mod KeyByKey

@@ -1,7 +1,11 @@
 //! What a selector asks of the labels of a line.
+ghost use Rattle.std.specs.Prelude.{◌≡◌, IfOk};
+ghost use Rattle.std.specs.List.{AllZip};
+ghost use Rattle.metric_queries.specs.Remarks.{IsAsked};
+
 use crate::test::{Test, test_of};
-use metric_base::{Copied, Text};
-use metric_promql::{LabelTest, NAME_LABEL, Selector};
+use metric_base::{Copied, Items, Text};
+use metric_promql::{LabelTest, NAME_LABEL};
 use std::alloc::{AllocError, Global};
 
 /// What is asked of a label.
@@ -13,55 +17,41 @@ pub struct Asked {
     pub test: Test,
 }
 
-/// Which matchers of a selector are asked beside those of the name, by their numbers.
-#[derive(Clone, Copy, Drop)]
-pub(crate) enum Part {
-    /// None.
-    Name,
-    /// One.
-    One(usize),
-    /// Two.
-    Two(usize, usize),
-    /// Each.
-    All,
-}
-
-impl Part {
-    fn has(self, number: usize) -> bool {
-        match self {
-            Part::Name => false,
-            Part::One(one) => number == one,
-            Part::Two(one, other) => number == one || number == other,
-            Part::All => true,
-        }
-    }
-}
-
-/// What a part of a selector asks for, without the matchers whose expression cannot be read.
-pub(crate) fn asked_of(
-    alloc: Global,
-    selector: &Selector,
-    part: Part,
-) -> Result<Vec<Asked>, AllocError> {
-    let mut asked = Vec::new(alloc);
-    let tests = selector.tests.as_slice();
-    for (number, test) in tests.iter().enumerate() {
-        if part.has(number) || is_of_name(test) {
-            add_asked(alloc, &mut asked, test)?;
-        }
+/// What each matcher of a selector asks for.
+pub(crate) fn asked_of(alloc: Global, tests: &[LabelTest]) -> Result<Items<Asked>, AllocError>
+    ensures { IfOk result (AllZip IsAsked tests.now) }
+{
+    let mut asked = Items::new(alloc);
+    for test in tests {
+        asked.push(asked_by(alloc, test)?)?;
     }
     Ok(asked)
+}
+
+fn asked_by(alloc: Global, matcher: &LabelTest) -> Result<Asked, AllocError>
+    ensures { IfOk result (IsAsked matcher.now) }
+{
+    let label = matcher.label.copy(alloc)?;
+    let test = test_of(alloc, matcher)?;
+    Ok(Asked { label, test })
+}
+
+/// What the matchers of the name ask for, and those of some numbers.
+pub(crate) fn part_of(
+    alloc: Global,
+    tests: &[LabelTest],
+    numbers: &[usize],
+) -> Result<Items<Asked>, AllocError> {
+    let mut part = Items::new(alloc);
+    for (number, test) in tests.iter().enumerate() {
+        if is_of_name(test) || numbers.contains(&number) {
+            part.push(asked_by(alloc, test)?)?;
+        }
+    }
+    Ok(part)
 }
 
 /// Whether a matcher is of the name.
 pub(crate) fn is_of_name(test: &LabelTest) -> bool {
     test.label.as_str() == NAME_LABEL
-}
-
-fn add_asked(alloc: Global, asked: &mut Vec<Asked>, matcher: &LabelTest) -> Result<(), AllocError> {
-    if let Some(test) = test_of(alloc, matcher)? {
-        let label = matcher.label.copy(alloc)?;
-        asked.push(Asked { label, test })?;
-    }
-    Ok(())
 }

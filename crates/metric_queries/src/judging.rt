@@ -1,12 +1,16 @@
 //! What is told of a selector: why no line can match it, and which of its matchers say nothing.
 //!
-//! Each reason is found by asking whether a part of the selector can match.
-use crate::asked::{Asked, Part, asked_of, is_of_name};
+//! Which matcher is the reason is found by asking whether a part of the selector can match.
+ghost use Rattle.std.specs.Prelude.{◌≡◌, ◌≢◌, ◌||◌, [], IfOk};
+ghost use Rattle.metric_queries.specs.Remarks.{AreRemarks, is_servers};
+
+use crate::asked::{Asked, asked_of, is_of_name, part_of};
 use crate::known::{
-    Known, can_match_some, first_of_name, has_type, have_buckets, have_label, is_elsewhere,
+    Known, can_match_at, can_match_some, first_of, has_type, have_buckets, have_label, is_recorded,
+    is_servers, places_of,
 };
 use crate::served::Served;
-use crate::test::{Test, test_of};
+use crate::test::Test;
 use metric_base::Copied;
 use metric_family::MetricType;
 use metric_promql::{LabelTest, QueryKind, Selector, Sign};
@@ -15,7 +19,7 @@ use std::alloc::{AllocError, Global};
 // So many matchers of a selector are put together by two.
 const MOST_PAIRED: usize = 16;
 
-/// What is told of a selector.
+/// What is told of a selector or of one of its matchers.
 #[derive(Clone, Copy, Debug, PartialEq, Eq, Drop)]
 pub struct QueryRemark {
     /// What it is.
@@ -30,95 +34,108 @@ pub struct QueryRemark {
     pub stream: Option<usize>,
 }
 
-impl QueryRemark {
-    fn new(
-        kind: QueryKind,
-        at: usize,
-        matcher: Option<usize>,
-        stream: Option<usize>,
-    ) -> QueryRemark {
-        QueryRemark {
-            kind,
-            at,
-            matcher,
-            other: None,
-            stream,
-        }
-    }
+/// What is told of a selector.
+#[derive(Drop)]
+pub struct Remarks {
+    /// Why no line of a page can match it; empty where some can.
+    pub reasons: Vec<QueryRemark>,
+    /// What of it says nothing, or cannot be read.
+    pub hints: Vec<QueryRemark>,
 }
 
-/// What is told of a selector: why no line of a page can match it, and what of it says nothing. It is empty where
-/// nothing is. Fails only when out of memory.
+/// What is told of a selector. Its reasons are not empty exactly where no stream of the pages matches, and nothing else
+/// may be asked for: no variable is its name, no rule records it, and no server writes it. Fails only when out of memory.
 pub fn remarks_of(
     alloc: Global,
     known: &Known<'_, '_>,
     selector: &Selector,
-) -> Result<Vec<QueryRemark>, AllocError> {
-    let mut remarks = unread_of(alloc, selector)?;
-    let asked = asked_of(alloc, selector, Part::Name)?;
-    if selector.is_open || is_elsewhere(alloc, known.recorded, asked.as_slice())? {
+) -> Result<Remarks, AllocError>
+    ensures { IfOk result (AreRemarks known.now selector.now) }
+{
+    let tests = selector.tests.as_slice();
+    let asked = asked_of(alloc, tests)?;
+    let mut remarks = Remarks {
+        reasons: Vec::new(alloc),
+        hints: unread_of(alloc, tests, asked.as_slice())?,
+    };
+    if is_elsewhere(alloc, known, selector, asked.as_slice())? {
         return Ok(remarks);
     }
-    let stream = first_of_name(alloc, known.served, asked.as_slice())?;
-    let name = Name { asked, stream };
-    judge(alloc, known, selector, &name, &mut remarks)?;
+    if can_match_some(alloc, known.added, known.served, asked.as_slice())? {
+        add_hints(alloc, known, selector, asked.as_slice(), &mut remarks.hints)?;
+    } else {
+        remarks.reasons = reasons_of(alloc, known, selector, asked.as_slice())?;
+    }
     Ok(remarks)
 }
 
-// What is asked of the name, and the number of the first stream that has it.
-#[derive(Drop)]
-struct Name {
-    asked: Vec<Asked>,
-    stream: Option<usize>,
+// Whether a selector may ask for a series that no page has: its name is a variable, or one that rules record or a server
+// writes.
+fn is_elsewhere(
+    alloc: Global,
+    known: &Known<'_, '_>,
+    selector: &Selector,
+    asked: &[Asked],
+) -> Result<bool, AllocError>
+    ensures { IfOk result (λ answer. known.now.recorded.now ≡ []
+        → answer ≡ (selector.now.is_open || is_servers asked.now)) }
+{
+    Ok(
+        selector.is_open
+            || is_servers(alloc, asked)?
+            || is_recorded(alloc, known.recorded, selector, asked)?,
+    )
 }
 
 // The matchers whose expressions cannot be read.
-fn unread_of(alloc: Global, selector: &Selector) -> Result<Vec<QueryRemark>, AllocError> {
-    let mut remarks = Vec::new(alloc);
-    let tests = selector.tests.as_slice();
-    for (number, test) in tests.iter().enumerate() {
-        if test_of(alloc, test)?.is_none() {
+fn unread_of(
+    alloc: Global,
+    tests: &[LabelTest],
+    asked: &[Asked],
+) -> Result<Vec<QueryRemark>, AllocError> {
+    let mut unread = Vec::new(alloc);
+    for (number, (test, asked)) in tests.iter().zip(asked).enumerate() {
+        if matches!(asked.test, Test::Any) {
             let kind = QueryKind::BadPattern;
-            remarks.push(QueryRemark::new(kind, test.at, Some(number), None))?;
+            unread.push(remark_of(kind, test.at, Some(number), None))?;
         }
     }
-    Ok(remarks)
+    Ok(unread)
 }
 
-fn judge(
+// Why no line matches: its name, else each matcher that takes no line of the name, else two or all of them together.
+fn reasons_of(
     alloc: Global,
     known: &Known<'_, '_>,
     selector: &Selector,
-    name: &Name,
-    remarks: &mut Vec<QueryRemark>,
-) -> Result<(), AllocError> {
-    if fits(alloc, known, selector, Part::All)? {
-        tell_idle(alloc, known, selector, name, remarks)?;
-        return tell_uses(alloc, known, selector, name, remarks);
+    asked: &[Asked],
+) -> Result<Vec<QueryRemark>, AllocError>
+    ensures { IfOk result (λ reasons. reasons.items ≢ []) }
+{
+    let places = places_of(alloc, known, asked)?;
+    let places = places.as_slice();
+    let mut reasons = Vec::new(alloc);
+    if !fits(alloc, known, places, selector, &[])? {
+        reasons.push(name_remark(known.served, selector))?;
+        return Ok(reasons);
     }
-    if !fits(alloc, known, selector, Part::Name)? {
-        let remark = name_remark(known.served, selector);
-        remarks.push(remark)?;
-        return Ok(());
+    add_alone(alloc, known, places, selector, &mut reasons)?;
+    if reasons.is_empty() {
+        reasons.push(together_remark(alloc, known, places, selector)?)?;
     }
-    let before = remarks.len();
-    tell_alone(alloc, known, selector, name, remarks)?;
-    if remarks.len() == before {
-        let remark = together_remark(alloc, known, selector, name)?;
-        remarks.push(remark)?;
-    }
-    Ok(())
+    Ok(reasons)
 }
 
-// Whether some line fulfils a part of a selector.
+// Whether some line fulfils the matchers of the name and those of some numbers.
 fn fits(
     alloc: Global,
     known: &Known<'_, '_>,
+    places: &[usize],
     selector: &Selector,
-    part: Part,
+    numbers: &[usize],
 ) -> Result<bool, AllocError> {
-    let asked = asked_of(alloc, selector, part)?;
-    can_match_some(alloc, known.added, known.served, asked.as_slice())
+    let part = part_of(alloc, selector.tests.as_slice(), numbers)?;
+    can_match_at(alloc, known, places, part.as_slice())
 }
 
 // What is told of a name that no line has.
@@ -126,178 +143,182 @@ fn name_remark(streams: &[Served<'_>], selector: &Selector) -> QueryRemark {
     let name = selector.name().unwrap_or("");
     for served in streams {
         if let Some(kind) = kind_of_suffix(served, name) {
-            return QueryRemark::new(kind, selector.at, None, Some(served.number));
+            return remark_of(kind, selector.at, None, Some(served.number));
         }
     }
-    QueryRemark::new(QueryKind::UnknownFamily, selector.at, None, None)
+    remark_of(QueryKind::UnknownFamily, selector.at, None, None)
 }
 
-// Tells of each matcher that takes no line of the name.
-fn tell_alone(
+// What is told of a selector, or of the matcher of a number.
+fn remark_of(
+    kind: QueryKind,
+    at: usize,
+    matcher: Option<usize>,
+    stream: Option<usize>,
+) -> QueryRemark {
+    QueryRemark {
+        kind,
+        at,
+        matcher,
+        other: None,
+        stream,
+    }
+}
+
+// Puts each matcher last that takes no line of the name.
+fn add_alone(
     alloc: Global,
     known: &Known<'_, '_>,
+    places: &[usize],
     selector: &Selector,
-    name: &Name,
-    remarks: &mut Vec<QueryRemark>,
+    reasons: &mut Vec<QueryRemark>,
 ) -> Result<(), AllocError> {
     let tests = selector.tests.as_slice();
     for (number, test) in tests.iter().enumerate() {
-        if !fits(alloc, known, selector, Part::One(number))? {
-            let kind = kind_of(alloc, known, name, test)?;
-            remarks.push(QueryRemark::new(kind, test.at, Some(number), name.stream))?;
+        if !fits(alloc, known, places, selector, &[number])? {
+            let kind = kind_of(known, places, test);
+            let stream = first_of(known, places);
+            reasons.push(remark_of(kind, test.at, Some(number), stream))?;
         }
     }
     Ok(())
 }
 
 // Why a matcher takes no line that there is.
-fn kind_of(
-    alloc: Global,
-    known: &Known<'_, '_>,
-    name: &Name,
-    test: &LabelTest,
-) -> Result<QueryKind, AllocError> {
+fn kind_of(known: &Known<'_, '_>, places: &[usize], test: &LabelTest) -> QueryKind {
     let label = test.label.as_str();
-    if !have_label(alloc, known, name.asked.as_slice(), label)? {
-        return Ok(QueryKind::UnknownLabel);
+    if !have_label(known, places, label) {
+        return QueryKind::UnknownLabel;
     }
     match test.sign {
-        Sign::Equal => kind_of_value(alloc, known.served, name, label),
-        Sign::Like => Ok(QueryKind::MatchesNone),
-        Sign::NotEqual | Sign::Unlike => Ok(QueryKind::MatchesAll),
+        Sign::Equal => kind_of_value(known, places, label),
+        Sign::Like => QueryKind::MatchesNone,
+        Sign::NotEqual | Sign::Unlike => QueryKind::MatchesAll,
     }
 }
 
-fn kind_of_value(
-    alloc: Global,
-    streams: &[Served<'_>],
-    name: &Name,
-    label: &str,
-) -> Result<QueryKind, AllocError> {
-    if label == "le" && has_type(alloc, streams, name.asked.as_slice(), MetricType::Histogram)? {
-        return Ok(QueryKind::UnknownBoundary);
+fn kind_of_value(known: &Known<'_, '_>, places: &[usize], label: &str) -> QueryKind {
+    if label == "le" && has_type(known, places, MetricType::Histogram) {
+        QueryKind::UnknownBoundary
+    } else {
+        QueryKind::UnknownValue
     }
-    Ok(QueryKind::UnknownValue)
 }
 
-// What is told of the first two matchers that no line fulfils together, else of all.
+// The first two matchers that no line fulfils together, else all.
 fn together_remark(
     alloc: Global,
     known: &Known<'_, '_>,
+    places: &[usize],
     selector: &Selector,
-    name: &Name,
 ) -> Result<QueryRemark, AllocError> {
+    let (kind, stream) = (QueryKind::NeverTogether, first_of(known, places));
     let tests = selector.tests.as_slice();
-    let kind = QueryKind::NeverTogether;
-    let mut remark = QueryRemark::new(kind, selector.at, None, name.stream);
     for (number, test) in tests.iter().take(MOST_PAIRED).enumerate() {
-        let partner = partner_of(alloc, known, selector, number)?;
+        let partner = partner_of(alloc, known, places, selector, number)?;
         if partner.is_some() {
-            remark.at = test.at;
-            remark.matcher = Some(number);
+            let mut remark = remark_of(kind, test.at, Some(number), stream);
             remark.other = partner;
             return Ok(remark);
         }
     }
-    Ok(remark)
+    Ok(remark_of(kind, selector.at, None, stream))
 }
 
 // The first matcher behind a number that no line fulfils with that one.
 fn partner_of(
     alloc: Global,
     known: &Known<'_, '_>,
+    places: &[usize],
     selector: &Selector,
     number: usize,
 ) -> Result<Option<usize>, AllocError> {
     let end = selector.tests.len().min(MOST_PAIRED);
     for other in number.saturating_add(1)..end {
-        if !fits(alloc, known, selector, Part::Two(number, other))? {
+        if !fits(alloc, known, places, selector, &[number, other])? {
             return Ok(Some(other));
         }
     }
     Ok(None)
 }
 
-// Tells of the matchers that say nothing of a selector that can match.
-fn tell_idle(
+// Puts last what of a selector that can match says nothing.
+fn add_hints(
     alloc: Global,
     known: &Known<'_, '_>,
     selector: &Selector,
-    name: &Name,
-    remarks: &mut Vec<QueryRemark>,
+    asked: &[Asked],
+    hints: &mut Vec<QueryRemark>,
 ) -> Result<(), AllocError> {
+    let places = places_of(alloc, known, asked)?;
+    let places = places.as_slice();
     let tests = selector.tests.as_slice();
     for (number, test) in tests.iter().enumerate() {
-        if !is_of_name(test) && test_of(alloc, test)?.is_some() {
-            if let Some(kind) = idle_kind(alloc, known, selector, name, test)? {
-                remarks.push(QueryRemark::new(kind, test.at, Some(number), name.stream))?;
-            }
+        if let Some(kind) = hint_of(alloc, known, places, selector, test)? {
+            let stream = first_of(known, places);
+            hints.push(remark_of(kind, test.at, Some(number), stream))?;
         }
     }
-    Ok(())
+    add_uses(alloc, known, places, selector, asked, hints)
 }
 
-// What is told of a matcher that says nothing: its label is in no line, or it excludes a value that is not declared.
-// One of an empty text asks whether there is a label at all.
-fn idle_kind(
+// What is told of a matcher that says nothing: its label is in no line, or it excludes a value that is not declared. One
+// of an empty text asks whether there is a label at all.
+fn hint_of(
     alloc: Global,
     known: &Known<'_, '_>,
+    places: &[usize],
     selector: &Selector,
-    name: &Name,
     test: &LabelTest,
 ) -> Result<Option<QueryKind>, AllocError> {
     let label = test.label.as_str();
-    if test.text.as_str().is_empty() {
+    if is_of_name(test) || test.text.as_str().is_empty() {
         return Ok(None);
     }
-    if !have_label(alloc, known, name.asked.as_slice(), label)? {
+    if !have_label(known, places, label) {
         return Ok(Some(QueryKind::UnknownLabel));
     }
-    if test.sign != Sign::NotEqual || has_value(alloc, known, selector, test)? {
+    if test.sign != Sign::NotEqual || has_value(alloc, known, places, selector, test)? {
         return Ok(None);
     }
-    let kind = kind_of_value(alloc, known.served, name, label)?;
-    Ok(Some(kind))
+    Ok(Some(kind_of_value(known, places, label)))
 }
 
 // Whether some line of the name has the text of a matcher.
 fn has_value(
     alloc: Global,
     known: &Known<'_, '_>,
+    places: &[usize],
     selector: &Selector,
     matcher: &LabelTest,
 ) -> Result<bool, AllocError> {
-    let mut asked = asked_of(alloc, selector, Part::Name)?;
+    let mut part = part_of(alloc, selector.tests.as_slice(), &[])?;
     let label = matcher.label.copy(alloc)?;
     let test = Test::Is(matcher.text.copy(alloc)?);
-    asked.push(Asked { label, test })?;
-    can_match_some(alloc, known.added, known.served, asked.as_slice())
+    part.push(Asked { label, test })?;
+    can_match_at(alloc, known, places, part.as_slice())
 }
 
 // Tells that a function is given what it does not ask for.
-fn tell_uses(
+fn add_uses(
     alloc: Global,
     known: &Known<'_, '_>,
+    places: &[usize],
     selector: &Selector,
-    name: &Name,
-    remarks: &mut Vec<QueryRemark>,
+    asked: &[Asked],
+    hints: &mut Vec<QueryRemark>,
 ) -> Result<(), AllocError> {
-    let asked = name.asked.as_slice();
-    let streams = known.served;
-    if selector.rate.is_some() && are_gauges(alloc, streams, asked)? {
-        let kind = QueryKind::RateOfGauge;
-        remarks.push(QueryRemark::new(kind, selector.at, None, name.stream))?;
+    let stream = first_of(known, places);
+    let counts = has_type(known, places, MetricType::Counter)
+        || has_type(known, places, MetricType::Histogram);
+    if selector.rate.is_some() && !counts {
+        hints.push(remark_of(QueryKind::RateOfGauge, selector.at, None, stream))?;
     }
-    if selector.is_quantile && !(selector.keeps_le && have_buckets(alloc, streams, asked)?) {
-        let kind = QueryKind::NoBuckets;
-        remarks.push(QueryRemark::new(kind, selector.at, None, name.stream))?;
+    let has_buckets = selector.keeps_le && have_buckets(alloc, known, places, asked)?;
+    if selector.is_quantile && !has_buckets {
+        hints.push(remark_of(QueryKind::NoBuckets, selector.at, None, stream))?;
     }
     Ok(())
-}
-
-fn are_gauges(alloc: Global, streams: &[Served<'_>], name: &[Asked]) -> Result<bool, AllocError> {
-    let counts = has_type(alloc, streams, name, MetricType::Counter)?;
-    Ok(!counts && !has_type(alloc, streams, name, MetricType::Histogram)?)
 }
 
 // Where a name is that of a stream's family with an end that another type has, or that pages leave out: which it is.

@@ -5,12 +5,14 @@
 //! take ([`can_match`]). What a label that a server writes itself has is not known, so that such a matcher is never the
 //! reason.
 //!
-//! What [`can_match`] answers of a stream is proved. What is told is tested alone.
+//! Proved is what [`can_match`] answers of a stream, that this is whether some line of a page matches, and when
+//! [`remarks_of`] has a reason. Which reason it has, and what else it tells, is tested.
 #![tactic(auto)]
 
 mod asked;
 mod judging;
 mod known;
+mod laws;
 mod matching;
 mod points;
 mod sample;
@@ -18,9 +20,10 @@ mod served;
 mod test;
 
 pub use asked::Asked;
-pub use judging::{QueryRemark, remarks_of};
+pub use judging::{QueryRemark, Remarks, remarks_of};
 pub use known::{Known, choices_of};
+pub use laws::{keys_are_enough, sets_are_found};
 pub use matching::can_match;
 pub use sample::Sample;
-pub use served::{Served, add_page};
+pub use served::{Served, add_page, stream_named};
 pub use test::{Test, takes, test_of};

@@ -46,17 +46,27 @@ pub fn can_match(
 }
 
 // Whether some sample has a name and a boundary that are asked for.
-pub(crate) fn has_sample(
-    alloc: Global,
-    served: &Served<'_>,
-    asked: &[Asked],
-) -> Result<bool, AllocError>
+fn has_sample(alloc: Global, served: &Served<'_>, asked: &[Asked]) -> Result<bool, AllocError>
     ensures { IfOk result (λ answer. answer
         ≡ list_any (is_sample_asked served.now.kind asked.now) served.now.samples) }
 {
     let samples = served.samples.as_slice();
     for sample in samples {
         if is_sample_asked(alloc, served.kind, asked, sample)? {
+            return Ok(true);
+        }
+    }
+    Ok(false)
+}
+
+/// Whether some sample has a name that is asked for, whatever its boundaries are.
+pub(crate) fn has_name(
+    alloc: Global,
+    served: &Served<'_>,
+    asked: &[Asked],
+) -> Result<bool, AllocError> {
+    for sample in served.samples.as_slice() {
+        if takes_at(alloc, NAME_LABEL, sample.name.as_str(), asked)? {
             return Ok(true);
         }
     }

@@ -52,6 +52,17 @@ pub fn add_page<'p>(
     Ok(())
 }
 
+/// The number of the first stream that has a sample of a name.
+pub fn stream_named(streams: &[Served<'_>], name: &str) -> Option<usize> {
+    for served in streams {
+        let samples = served.samples.as_slice();
+        if samples.iter().any(|sample| sample.name.as_str() == name) {
+            return Some(served.number);
+        }
+    }
+    None
+}
+
 // The stream of a number with what its lines have; nothing where its instrument or its meter is not declared.
 fn served_of<'p>(
     alloc: Global,

@@ -1,8 +1,8 @@
 //! How a matcher tests the text of a label.
-ghost use Rattle.std.specs.Prelude.{◌≡◌, ◌++◌, codes, IfOk, IfSome, MatchOption, is_some, string_bytes};
+ghost use Rattle.std.specs.Prelude.{◌≡◌, ◌++◌, codes, IfOk, IfSome, is_some, string_bytes};
 ghost use Rattle.regex.specs.Patterns.{find_str};
 ghost use Rattle.regex.specs.Strings.{regex_pattern};
-ghost use Rattle.metric_queries.specs.Tests.{IsExpression, IsReadFrom, IsTestOf, anchored, takes};
+ghost use Rattle.metric_queries.specs.Tests.{IsReadFrom, IsTestOf, anchored, takes};
 
 use metric_base::Text;
 use metric_promql::{LabelTest, Sign};
@@ -20,24 +20,25 @@ pub enum Test {
     Like(Regex),
     /// The expression does not match it.
     Unlike(Regex),
+    /// The expression cannot be read, or is too large: any text is taken.
+    Any,
 }
 
-/// The test of a matcher; nothing where its expression cannot be read, or is too large. Fails only when out of memory.
-pub fn test_of(alloc: Global, test: &LabelTest) -> Result<Option<Test>, AllocError>
-    ensures { IfOk result (λ found. MatchOption found
-        (IsExpression test.now.sign) (IsTestOf test.now.sign test.now.text)) }
+/// The test of a matcher. Fails only when out of memory.
+pub fn test_of(alloc: Global, test: &LabelTest) -> Result<Test, AllocError>
+    ensures { IfOk result (IsTestOf test.now.sign test.now.text) }
 {
     let text = test.text.as_str();
     match test.sign {
-        Sign::Equal => Ok(Some(Test::Is(Text::new(alloc, text)?))),
-        Sign::NotEqual => Ok(Some(Test::IsNot(Text::new(alloc, text)?))),
+        Sign::Equal => Ok(Test::Is(Text::new(alloc, text)?)),
+        Sign::NotEqual => Ok(Test::IsNot(Text::new(alloc, text)?)),
         Sign::Like => match expression_of(alloc, text)? {
-            Some(regex) => Ok(Some(Test::Like(regex))),
-            None => Ok(None),
+            Some(regex) => Ok(Test::Like(regex)),
+            None => Ok(Test::Any),
         },
         Sign::Unlike => match expression_of(alloc, text)? {
-            Some(regex) => Ok(Some(Test::Unlike(regex))),
-            None => Ok(None),
+            Some(regex) => Ok(Test::Unlike(regex)),
+            None => Ok(Test::Any),
         },
     }
 }
@@ -72,6 +73,7 @@ pub fn takes(alloc: Global, test: &Test, text: &str) -> Result<bool, AllocError>
         Test::IsNot(wanted) => Ok(wanted.as_str() != text),
         Test::Like(regex) => is_like(alloc, regex, text),
         Test::Unlike(regex) => Ok(!is_like(alloc, regex, text)?),
+        Test::Any => Ok(true),
     }
 }
 
