@@ -115,16 +115,22 @@ compared_app =
     with_rule (with_rule old_app (file_rule (codes "catalogue") true))
     (file_rule (codes "config") true)
 
-abbrev pub diff_app : App
-diff_app =
+-- the same with what counts of the changes
+abbrev pub denied_app : App
+denied_app =
     with_rule
-    (with_rule
     (with_rule
     (with_rule (with_rule compared_app (text_rule (codes "certificate")))
     (text_rule (codes "accepted")))
     (texts_rule (codes "deny")))
-    (texts_rule (codes "allow")))
-    (flag_rule (codes "json"))
+    (texts_rule (codes "allow"))
+
+-- a command that may be asked about queries, and the labels that a server adds
+abbrev pub queried_app : App → App
+queried_app app = with_rule (with_rule app (texts_rule (codes "queries"))) (texts_rule (codes "label"))
+
+abbrev pub diff_app : App
+diff_app = queried_app (with_rule denied_app (flag_rule (codes "json")))
 
 -- the option of a file of an old pair
 abbrev pub old_rule : Text → Text → Rule
@@ -144,13 +150,14 @@ draw_app = changed_app (codes "draw")
 
 abbrev pub report_app : App
 report_app =
-    with_rule
+    queried_app
+    (with_rule
     (with_rule
     (with_rule
     (with_rule (changed_app (codes "report")) (texts_rule (codes "allow")))
     (texts_rule (codes "for")))
     (number_rule (codes "rate") 1 most_rate (codes "10000")))
-    (number_rule (codes "instances") 1 most_instances (codes "1"))
+    (number_rule (codes "instances") 1 most_instances (codes "1")))
 
 -- a command over a catalogue alone
 abbrev pub single_app : App

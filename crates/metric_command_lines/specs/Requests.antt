@@ -91,7 +91,7 @@ words_in id rows = unwrap_or (all_of id rows) []
 
 -- a word is a kind of what the command tells: of change, or of remark
 abbrev pub is_concern : Task → Text → Bool
-is_concern Diff word = is_change word
+is_concern Diff word = is_change word || bytes_eq word (codes "broken-query")
 is_concern Queries word = is_query_kind word
 is_concern task word = bytes_eq word (codes "exposure") || is_kind word
 

@@ -4,3 +4,4 @@ pub mod OnlyReaders
 pub mod PageEnds
 pub mod Sides
 pub mod Reports
+pub mod Overwriting

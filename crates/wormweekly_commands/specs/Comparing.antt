@@ -1,5 +1,5 @@
 -- What a comparison of an old catalogue and config with new ones answers.
-use Rattle.std.specs.Prelude.{◌≡◌, ◌⊎◌, ℕ, Bool, List, [], Option, None, Result, IfErr, IfOk, IsSomeAnd}
+use Rattle.std.specs.Prelude.{◌≡◌, ◌⊎◌, ◌&&◌, ℕ, Bool, false, List, [], Option, None, Result, IfErr, IfOk, IsSomeAnd}
 use Rattle.std.specs.Prelude.{if◌then◌else◌}
 use Rattle.std.specs.List.{flat_map, list_any}
 use Rattle.metric_parts.specs.declared.parts.Parts.{Parts}
@@ -11,7 +11,7 @@ use Rattle.metric_command_lines.specs.declared.wormweekly.request.Request.{Reque
 use Rattle.metric_kit_commands.specs.Claims.{IsClaimFault}
 use Rattle.metric_kit_commands.specs.Declarations.{IsDeclaredFault}
 use Rattle.wormweekly_commands.specs.Answers.{AreRooms, IsAccepted}
-use Rattle.wormweekly_commands.specs.Concerns.{denies_change, still_open, unless_named}
+use Rattle.wormweekly_commands.specs.Concerns.{denies_broken, denies_change, still_open, unless_named}
 use Rattle.wormweekly_commands.specs.Faults.{IsDeviceFault, IsRefusal}
 use Rattle.wormweekly_commands.specs.Series.{all_series}
 use Rattle.wormweekly_commands.specs.declared.comparing.Claim.{Claim}
@@ -76,15 +76,24 @@ abbrev pub told_changes : Request → Comparison → List Change
 told_changes request comparison =
     flat_map (unless_named kind_of request.concerns.allowed) comparison.changes
 
+-- 1 where queries break and that is denied, else the status of the changes
+abbrev pub broken_status : List (List ℕ) → Bool → List Change → ℕ
+broken_status denied broken changes =
+    if broken && denies_broken denied then 1 else diff_status denied changes
+
 -- The answer's status, where it was written. It is that of the changes that are told but for those
--- that a file accepts; without a file there are none.
+-- that a file accepts, without a file there are none; and of whether queries break, where there are
+-- some.
 pub record Compares (request : Request) (texts : Texts) (status : ℕ) : Type 0 where
   pub comparison : Comparison
   pub compared : IsCompared texts comparison
   pub accepted : List Bool
   pub are_accepted : texts.accepted ≡ None → accepted ≡ []
+  pub broken : Bool
+  pub is_broken : request.files.queries ≡ [] → broken ≡ false
   pub is_status : status
-      ≡ diff_status request.concerns.denied (still_open accepted (told_changes request comparison))
+      ≡ broken_status request.concerns.denied broken
+      (still_open accepted (told_changes request comparison))
 
 -- A comparison is written, or refused; where it is refused nothing is written.
 pub record RunsDiff (request : Request) (texts : Texts) (contents contents_after : Option (List ℕ))

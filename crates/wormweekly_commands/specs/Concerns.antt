@@ -40,3 +40,7 @@ still_open accepted these = flat_map (unless_accepted accepted) (enumerate_from 
 abbrev pub denies_change : List (List ℕ) → Change → Bool
 denies_change words change =
     (names words (codes "breaking") && is_breaking change) || names words (changes.kind_of change)
+
+-- queries that a change breaks are denied
+abbrev pub denies_broken : List (List ℕ) → Bool
+denies_broken words = names words (codes "breaking") || names words (codes "broken-query")

@@ -20,16 +20,9 @@ IsReadersFault (faults.Page fault) = Unit {0}
 IsReadersFault (faults.Kit fault) = fault ≡ Memory
 IsReadersFault _ = ⊥
 
--- A file of queries cannot be read, or memory ran out.
-abbrev pub IsFilesFault : ConsoleFault → Type 0
-IsFilesFault (faults.Unread role cause) = Unit {0}
-IsFilesFault (faults.Kit fault) = fault ≡ Memory
-IsFilesFault _ = ⊥
-
--- A fault is the first of the parts, or one of a device; or a file of queries cannot be read, or no
--- page can be asked about.
+-- A fault is the first of the parts, or one of a device; or no page can be asked about.
 abbrev pub RefusesQueries : Parts → ConsoleFault → Type 0
-RefusesQueries parts (faults.Unread role cause) = Unit {0}
+RefusesQueries parts (faults.Unread role cause) = ⊥
 RefusesQueries parts (faults.Overwrites role) = ⊥
 RefusesQueries parts (faults.Unwritten cause) = ⊥
 RefusesQueries parts (faults.Page fault) = AreRight parts

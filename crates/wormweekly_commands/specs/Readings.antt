@@ -1,5 +1,6 @@
 -- What is read of the files of a request.
 use Rattle.std.specs.Prelude.{◌≡◌, ℕ, List, Option, Some, None, true, IfSome, IsSomeAnd}
+use Rattle.std.specs.List.{AllZip}
 use Rattle.metric_parts.specs.declared.parts.Parts.{Parts}
 use Rattle.metric_command_lines.specs.declared.wormweekly.request.Files.{Files}
 use Rattle.wormweekly_commands.specs.declared.parts.Texts.{Texts}
@@ -36,3 +37,4 @@ pub record AreTexts (held : List ℕ → Option (List ℕ)) (files : Files) (tex
   pub certificate : MayBeHeld held files.certificate texts.parts.certificate
   pub accepted : MayBeHeld held files.accepted texts.accepted
   pub script : MayBeHeld held files.script texts.script
+  pub queries : AllZip (IsHeld held) files.queries texts.queries

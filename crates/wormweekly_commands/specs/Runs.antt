@@ -1,6 +1,8 @@
 -- What running a request does.
 use Rattle.std.specs.Prelude.{◌≡◌, ◌≢◌, ◌⊎◌, ℕ, Bool, false, true, not, List, Option, Some, None, Result, Ok}
-use Rattle.std.specs.Prelude.{Err, IfErr, IfOk, IfSome, IsErr, IsErrAnd, IsOkAnd, IsSomeAnd, OnErr, is_some, string_bytes}
+use Rattle.std.specs.Prelude.{Err, IfErr, IfOk, IfSome, IsErr, IsErrAnd, IsOkAnd, IsSomeAnd, OnErr, is_some, slice_get, string_bytes}
+use Rattle.std.specs.List.{list_any}
+use Rattle.std.specs.Str.{bytes_eq}
 use Rattle.metric_contents.specs.declared.contents.Contents.{Contents}
 use Rattle.metric_catalogue.specs.Catalogues.{catalogue_of, opened_of}
 use Rattle.metric_catalogue.specs.InFull.{fits_in_full}
@@ -33,6 +35,7 @@ use Rattle.wormweekly_commands.specs.declared.fault.ConsoleFault.TheVariants.{Un
 use Rattle.wormweekly_commands.specs.declared.fault.ConsoleFault.TheVariants.{Overwrites, Unwritten}
 use Rattle.wormweekly_commands.specs.declared.fault.ConsoleFault.TheVariants as faults
 use Rattle.wormweekly_commands.specs.declared.fault.Role.{Role}
+use Rattle.wormweekly_commands.specs.declared.fault.Role.TheVariants as roles
 use Rattle.wormweekly_commands.specs.declared.fault.Role.TheVariants.{Catalogue, Config, OldCatalogue, OldConfig}
 use Rattle.wormweekly_commands.specs.declared.folder.Unread.TheVariants as unread
 use Rattle.wormweekly_commands.specs.declared.parts.Texts.{Texts}
@@ -206,10 +209,16 @@ IsOld same output files OldCatalogue = IsSomeAnd files.old_catalogue (IsOneFile 
 IsOld same output files OldConfig = IsSomeAnd files.old_config (IsOneFile same output)
 IsOld same output files _ = ⊥
 
+-- A path leads to the file of queries of a number.
+abbrev pub IsQueriesFile : (List ℕ → List ℕ → Option Bool) → List ℕ → List (List ℕ) → ℕ → Type 0
+IsQueriesFile same output queries number =
+    IsSomeAnd (slice_get queries number) (IsOneFile same output)
+
 -- A path leads to the file of a role that is read.
 abbrev pub IsInput : (List ℕ → List ℕ → Option Bool) → List ℕ → Files → Role → Type 0
 IsInput same output files Catalogue = IsOneFile same output files.catalogue
 IsInput same output files Config = IsOneFile same output files.config
+IsInput same output files (roles.Queries number) = IsQueriesFile same output files.queries number
 IsInput same output files role = IsOld same output files role
 
 -- The output is that file, as far as the folder knows.
@@ -222,10 +231,14 @@ NamesOld output files =
     IsSomeAnd files.old_catalogue (λ path. path ≡ output)
     ⊎ IsSomeAnd files.old_config (λ path. path ≡ output)
 
+-- A path is that of an old file, or of a file of queries.
+abbrev pub NamesOther : List ℕ → Files → Type 0
+NamesOther output files = NamesOld output files ⊎ (list_any (bytes_eq output) files.queries ≡ true)
+
 -- The path of the output is that of a file that is read.
 abbrev pub NamesInput : Files → Type 0
 NamesInput files = IsSomeAnd files.output
-    (λ path. (path ≡ files.catalogue) ⊎ ((path ≡ files.config) ⊎ NamesOld path files))
+    (λ path. (path ≡ files.catalogue) ⊎ ((path ≡ files.config) ⊎ NamesOther path files))
 
 -- The output is a file that is read, or a file cannot be read.
 abbrev pub IsUnstarted : (List ℕ → List ℕ → Option Bool) → Files → ConsoleFault → Type 0

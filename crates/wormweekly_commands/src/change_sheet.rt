@@ -1,4 +1,5 @@
 //! Changes as rows.
+use crate::broken::{Broken, place_cell, words_cell};
 use crate::change_cells::{after_cell, before_cell};
 use crate::comparing::{Claim, Comparison};
 use crate::rooms::Rooms;
@@ -13,11 +14,12 @@ static TITLES: [&str; 8] = [
     "change", "breaks", "reader", "meter", "name", "what", "before", "after",
 ];
 
-/// Changes of a comparison, and last whether its certificate holds.
+/// Changes of a comparison, then the queries that they break, and last whether its certificate holds.
 #[derive(Clone, Copy)]
 pub(crate) struct ChangeSheet<'a> {
     pub comparison: &'a Comparison,
     pub changes: &'a [Change],
+    pub broken: &'a [Broken],
 }
 
 impl Sheet for ChangeSheet<'_> {
@@ -26,21 +28,36 @@ impl Sheet for ChangeSheet<'_> {
     }
 
     fn rows(&self) -> usize {
-        let changes = self.changes.len();
+        let rows = self.changes.len().saturating_add(self.broken.len());
         match self.comparison.claim {
-            Claim::Absent => changes,
-            _ => changes.saturating_add(1),
+            Claim::Absent => rows,
+            _ => rows.saturating_add(1),
         }
     }
 
     fn row(&self, alloc: Global, number: usize) -> Result<Vec<Cell>, AllocError> {
         let mut row = Row::new(alloc);
-        match self.changes.get(number) {
-            Some(change) => put_change(&mut row, self.comparison, change),
-            None => put_claim(&mut row, &self.comparison.claim),
+        let broken = self.broken.get(number.wrapping_sub(self.changes.len()));
+        match (self.changes.get(number), broken) {
+            (Some(change), _) => put_change(&mut row, self.comparison, change),
+            (None, Some(broken)) => put_broken(&mut row, self.comparison, broken),
+            (None, None) => put_claim(&mut row, &self.comparison.claim),
         }
         row.cells()
     }
+}
+
+// The cells of a query that is broken: of what the change is that is the reason, the place of the query, and what is told.
+fn put_broken(row: &mut Row, comparison: &Comparison, broken: &Broken) {
+    row.text("broken");
+    row.flag(true);
+    match &broken.reason {
+        Some(change) => put_subject(row, comparison, change),
+        None => put_nothings(row),
+    }
+    row.text("query");
+    row.put(place_cell(row.alloc(), broken));
+    row.put(words_cell(row.alloc(), comparison, broken));
 }
 
 // The cells of a change.

@@ -2,7 +2,7 @@
 ghost use Rattle.std.specs.Prelude.{◌≡◌, ◌++◌, false, IfOk, OnOk, slice_index_or};
 ghost use Rattle.std.specs.List.{flat_map, list_any};
 ghost use Rattle.metric_lint.specs.Kinds.{kind_of};
-ghost use Rattle.wormweekly_commands.specs.Concerns.{denies, denies_change, denies_some, names, still_open, unless_accepted, unless_named};
+ghost use Rattle.wormweekly_commands.specs.Concerns.{denies, denies_broken, denies_change, denies_some, names, still_open, unless_accepted, unless_named};
 
 use crate::notes::Notes;
 use metric_base::{Items, Text};
@@ -165,4 +165,11 @@ pub(crate) fn denies_change(words: &[Text], change: &Change) -> bool
     ensures { result ≡ denies_change words.now change.now }
 {
     (names(words, "breaking") && change.is_breaking()) || names(words, change.kind())
+}
+
+/// Whether words deny queries that a change breaks.
+pub(crate) fn denies_broken(words: &[Text]) -> bool
+    ensures { result ≡ denies_broken words.now }
+{
+    names(words, "breaking") || names(words, "broken-query")
 }

@@ -9,7 +9,7 @@ use crate::fault::{ConsoleFault, Role};
 use crate::folder::{Folder, Unread};
 use crate::parts::{Texts, text_at};
 use crate::telling::stop;
-use metric_base::Text;
+use metric_base::{Items, Text};
 use metric_catalogue::{Catalogue, CatalogueFault};
 use metric_command_lines::{Files, Request};
 use metric_io::Sink;
@@ -67,6 +67,7 @@ fn texts_of_catalogue(alloc: Global, catalogue: Text) -> Texts
         parts,
         script: None,
         accepted: None,
+        queries: Items::new(alloc),
     }
 }
 

@@ -4,22 +4,41 @@ use crate::message::Message;
 use crate::noting::MOST_NOTES;
 use crate::query_message::{cause_of, words_of};
 use crate::shown_path::shown;
-use metric_base::{Copied, Text};
+use metric_base::Text;
 use metric_command_lines::Request;
 use metric_messages::{NamedText, Pair, diagnose_at};
 use metric_promql::{
     Expression, Expressions, FileForm, PromqlFault, QueryKind, Selector, Unread, expressions_of,
     scan,
 };
-use metric_queries::{Known, Served, remarks_of};
+use metric_queries::{Known, QueryRemark, Served, remarks_of};
 use metric_views::Stream;
 use std::alloc::{AllocError, Global};
 
-/// What is told of queries: its kind, and in full of the first.
+/// What is told of queries.
 #[derive(Drop)]
 pub(crate) struct Told {
     pub kind: QueryKind,
-    pub message: Option<Message>,
+    /// The query that it is told of.
+    pub query: Query,
+    /// What is told in full of the first.
+    pub detail: Option<Detail>,
+}
+
+/// A query: the number of its file, and its own in the file.
+#[derive(Clone, Copy, PartialEq, Eq, PartialOrd, Ord, Drop)]
+pub(crate) struct Query {
+    pub file: usize,
+    pub number: usize,
+}
+
+/// What is told in full, with the name of the series that is asked for and the text of the matcher that it is about, each
+/// empty where there is none.
+#[derive(Drop)]
+pub(crate) struct Detail {
+    pub message: Message,
+    pub name: Text,
+    pub text: Text,
 }
 
 /// What is found in files of queries.
@@ -36,14 +55,16 @@ pub(crate) struct Found {
 struct Judge<'a, 'p> {
     alloc: Global,
     allowed: &'a [Text],
+    skipped: &'a [Told],
     pair: Pair<'a>,
     streams: &'a [Stream],
     known: Known<'a, 'p>,
+    query: Query,
     found: Found,
 }
 
-/// Judges the selectors of files by the streams of pages, in the order in which they stand. The rules of one file may
-/// record what another asks for.
+/// Judges the selectors of files by the streams of pages, in the order in which they stand, but for queries of which
+/// something is told already. The rules of one file may record what another asks for.
 pub(crate) fn judge_files(
     alloc: Global,
     request: &Request,
@@ -51,12 +72,14 @@ pub(crate) fn judge_files(
     streams: &[Stream],
     served: &[Served<'_>],
     files: &[Text],
+    skipped: &[Told],
 ) -> Result<Found, AllocError> {
     let read = read_all(alloc, request, files)?;
     let recorded = recorded_of(alloc, &read)?;
     let mut judge = Judge {
         alloc,
         allowed: request.concerns.allowed.as_slice(),
+        skipped,
         pair,
         streams,
         known: Known {
@@ -64,13 +87,15 @@ pub(crate) fn judge_files(
             recorded: &recorded,
             served,
         },
+        query: Query { file: 0, number: 0 },
         found: Found {
             told: Vec::new(alloc),
             left_out: 0,
         },
     };
-    for (number, read) in read.iter().enumerate() {
-        judge.take_file(source_of(request, files, number), read)?;
+    for (file, read) in read.iter().enumerate() {
+        judge.query = Query { file, number: 0 };
+        judge.take_file(source_of(request, files, file), read)?;
     }
     let Judge { found, .. } = judge;
     Ok(found)
@@ -108,19 +133,20 @@ fn read_all(
     Ok(read)
 }
 
-// The names that the rules of all files record.
+// The names that the rules of all files record, in order.
 fn recorded_of(
     alloc: Global,
     read: &[Result<Expressions, PromqlFault>],
-) -> Result<Vec<Text>, AllocError> {
+) -> Result<Vec<String>, AllocError> {
     let mut recorded = Vec::new(alloc);
     for file in read {
         if let Ok(expressions) = file {
             for name in expressions.recorded.as_slice() {
-                recorded.push(name.copy(alloc)?)?;
+                recorded.push(String::from_str(alloc, name.as_str())?)?;
             }
         }
     }
+    recorded.sort()?;
     Ok(recorded)
 }
 
@@ -132,13 +158,27 @@ impl Judge<'_, '_> {
     ) -> Result<(), AllocError> {
         match read {
             Ok(expressions) => {
-                for expression in expressions.list.as_slice() {
-                    self.take_expression(source, expression, expressions.is_template)?;
+                for (number, expression) in expressions.list.as_slice().iter().enumerate() {
+                    self.query.number = number;
+                    if !self.is_skipped() {
+                        self.take_expression(source, expression, expressions.is_template)?;
+                    }
                 }
                 Ok(())
             }
             Err(PromqlFault::Memory) => Err(AllocError),
+            Err(PromqlFault::Unread { .. }) if self.is_skipped() => Ok(()),
             Err(PromqlFault::Unread { cause, at }) => self.tell_unread(source, *cause, *at),
+        }
+    }
+
+    // Whether something is told of the query already.
+    fn is_skipped(&self) -> bool {
+        let query = self.query;
+        let place = self.skipped.partition_point(|told| told.query < query);
+        match self.skipped.get(place) {
+            Some(told) => told.query == query,
+            None => false,
         }
     }
 
@@ -169,23 +209,42 @@ impl Judge<'_, '_> {
         expression: &Expression,
         selector: &Selector,
     ) -> Result<(), AllocError> {
-        let alloc = self.alloc;
-        for remark in remarks_of(alloc, &self.known, selector)?.as_slice() {
-            let words = if self.tells(remark.kind) {
-                words_of(
-                    alloc,
-                    self.pair,
-                    self.streams,
-                    &self.known,
-                    selector,
-                    *remark,
-                )?
-            } else {
-                String::new(alloc)
-            };
-            self.tell(source, remark.kind, expression.place_of(remark.at), words)?;
+        let remarks = remarks_of(self.alloc, &self.known, selector)?;
+        for remark in remarks.hints.iter().chain(remarks.reasons.iter()) {
+            if !names(self.allowed, remark.kind.name()) {
+                self.take_remark(source, expression, selector, *remark)?;
+            }
         }
         Ok(())
+    }
+
+    fn take_remark(
+        &mut self,
+        source: NamedText<'_>,
+        expression: &Expression,
+        selector: &Selector,
+        remark: QueryRemark,
+    ) -> Result<(), AllocError> {
+        let alloc = self.alloc;
+        if !self.tells() {
+            return self.tell(remark.kind, None);
+        }
+        let words = words_of(
+            alloc,
+            self.pair,
+            self.streams,
+            &self.known,
+            selector,
+            remark,
+        )?;
+        let at = expression.place_of(remark.at);
+        let found = diagnose_at(source, remark.kind, at, words);
+        let detail = Detail {
+            message: Message::diagnosed(alloc, Ok(found))?,
+            name: Text::new(alloc, selector.name().unwrap_or(""))?,
+            text: Text::new(alloc, text_of_test(selector, remark.matcher))?,
+        };
+        self.tell(remark.kind, Some(detail))
     }
 
     fn tell_unread(
@@ -194,32 +253,44 @@ impl Judge<'_, '_> {
         cause: Unread,
         at: usize,
     ) -> Result<(), AllocError> {
-        let words = String::from_str(self.alloc, cause_of(cause))?;
-        self.tell(source, QueryKind::Unread, at, words)
-    }
-
-    // Whether what has this kind is told in full.
-    fn tells(&self, kind: QueryKind) -> bool {
-        self.found.told.len() < MOST_NOTES && !names(self.allowed, kind.name())
-    }
-
-    // Tells it, unless its kind is left out.
-    fn tell(
-        &mut self,
-        source: NamedText<'_>,
-        kind: QueryKind,
-        at: usize,
-        words: String,
-    ) -> Result<(), AllocError> {
-        let message = if self.tells(kind) {
-            let found = diagnose_at(source, kind, at, words);
-            Some(Message::diagnosed(self.alloc, Ok(found))?)
-        } else {
-            None
-        };
-        if !names(self.allowed, kind.name()) {
-            self.found.told.push(Told { kind, message })?;
+        let (alloc, kind) = (self.alloc, QueryKind::Unread);
+        if names(self.allowed, kind.name()) {
+            return Ok(());
         }
+        if !self.tells() {
+            return self.tell(kind, None);
+        }
+        let words = String::from_str(alloc, cause_of(cause))?;
+        let found = diagnose_at(source, kind, at, words);
+        let detail = Detail {
+            message: Message::diagnosed(alloc, Ok(found))?,
+            name: Text::new(alloc, "")?,
+            text: Text::new(alloc, "")?,
+        };
+        self.tell(kind, Some(detail))
+    }
+
+    // Whether what comes next is told in full.
+    fn tells(&self) -> bool {
+        self.found.told.len() < MOST_NOTES
+    }
+
+    fn tell(&mut self, kind: QueryKind, detail: Option<Detail>) -> Result<(), AllocError> {
+        let query = self.query;
+        self.found.told.push(Told {
+            kind,
+            query,
+            detail,
+        })?;
         Ok(())
+    }
+}
+
+// The text of a matcher, empty where there is none.
+fn text_of_test(selector: &Selector, number: Option<usize>) -> &str {
+    let tests = selector.tests.as_slice();
+    match tests.get(number.unwrap_or(usize::MAX)) {
+        Some(test) => test.text.as_str(),
+        None => "",
     }
 }

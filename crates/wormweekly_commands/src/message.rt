@@ -95,6 +95,20 @@ impl Sheet for Message {
 }
 
 impl Message {
+    /// The cause alone.
+    pub(crate) fn words(&self) -> &str {
+        self.words.as_str()
+    }
+
+    /// The file and the place in it, as far as there are.
+    pub(crate) fn place(&self, alloc: Global) -> Result<String, AllocError> {
+        let file = self.file.as_str();
+        match self.position {
+            Some(Position { line, column }) => format!(in alloc; "{file}:{line}:{column}"),
+            None => String::from_str(alloc, file),
+        }
+    }
+
     /// Puts the file, the place and the cause last.
     pub(crate) fn put_place(&self, row: &mut Row) {
         if self.file.is_empty() {

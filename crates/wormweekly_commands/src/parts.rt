@@ -1,22 +1,24 @@
 //! The texts of a request's files.
 ghost use Rattle.std.specs.Prelude.{IfOk, IfErr};
+ghost use Rattle.std.specs.List.{AllZip};
 ghost use Rattle.wormweekly_commands.specs.Readings.{AreOld, ArePair, AreTexts, IsHeld, MayBeHeld};
 ghost use Rattle.wormweekly_commands.specs.Faults.{IsUnread};
 
 use crate::fault::{ConsoleFault, Role};
-use crate::folder::Folder;
-use metric_base::Text;
+use crate::folder::{Folder, Unread};
+use metric_base::{Items, Text};
 use metric_command_lines::Files;
 use metric_parts::Parts;
 use std::alloc::Global;
 
-/// The texts of a request's files: the old parts of a comparison, the parts that a command reads, the script, and the
-/// changes that are accepted.
+/// The texts of a request's files: the old parts of a comparison, the parts that a command reads, the script, the changes
+/// that are accepted, and the files of queries.
 pub(crate) struct Texts {
     pub old: Option<Parts<'static>>,
     pub parts: Parts<'static>,
     pub script: Option<Text>,
     pub accepted: Option<Text>,
+    pub queries: Items<Text>,
 }
 
 impl Drop for Texts {
@@ -26,6 +28,7 @@ impl Drop for Texts {
             parts: _parts,
             script: _script,
             accepted: _accepted,
+            queries: _queries,
         } = self;
     }
 }
@@ -45,6 +48,7 @@ pub(crate) fn texts_of<F: Folder>(
     let certificate = optional_text(alloc, folder, &files.certificate, Role::Certificate)?;
     let accepted = optional_text(alloc, folder, &files.accepted, Role::Accepted)?;
     let script = optional_text(alloc, folder, &files.script, Role::Script)?;
+    let queries = query_texts(alloc, folder, files.queries.as_slice())?;
     let parts = Parts {
         catalogue,
         opens: true,
@@ -57,7 +61,29 @@ pub(crate) fn texts_of<F: Folder>(
         parts,
         script,
         accepted,
+        queries,
     })
+}
+
+// The texts of the files of queries.
+fn query_texts<F: Folder>(
+    alloc: Global,
+    folder: &F,
+    paths: &[Text],
+) -> Result<Items<Text>, ConsoleFault>
+    ensures read { IfOk result (AllZip (IsHeld (F.held folder.now)) paths.now) }
+    ensures unread { IfErr result IsUnread }
+{
+    let mut texts = Items::new(alloc);
+    for number in 0..paths.len() {
+        let role = Role::Queries { number };
+        let text = text_at(alloc, folder, &paths[number], role)?;
+        if texts.push(text).is_err() {
+            let cause = Unread::Memory;
+            return Err(ConsoleFault::Unread { role, cause });
+        }
+    }
+    Ok(texts)
 }
 
 // The old parts of a comparison.

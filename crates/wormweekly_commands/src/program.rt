@@ -1,26 +1,31 @@
 //! A request, run.
-ghost use Rattle.std.specs.Prelude.{◌≡◌, ◌≢◌, IfErr, IfOk, IsSome, IsSomeAnd, MatchOption, None, OnErr, OnOk, false, true};
+ghost use Rattle.std.specs.Prelude.{◌≡◌, ◌≢◌, IfErr, IfOk, IsSome, IsSomeAnd, MatchOption, None, OnErr, OnOk, [], false, true};
 ghost use Rattle.wormweekly_commands.specs.Answers.{HasReaders, IsUnknownReader};
 ghost use Rattle.wormweekly_commands.specs.Comparing.{Compares, RefusesDiff};
 ghost use Rattle.wormweekly_commands.specs.Faults.{IsDeviceFault, IsRefusal};
 ghost use Rattle.metric_kit_commands.specs.Commands.{HasNeeded, sink_run};
 ghost use Rattle.metric_kit_commands.specs.Replaying.{needs_of, plain_options};
 ghost use Rattle.wormweekly_commands.specs.Paging.{dialect_of};
-ghost use Rattle.wormweekly_commands.specs.Runs.{Answers, EndsPlain, EndsScript, IsOld, IsOneFile, IsOverwriting, IsReplayEnd, NamesInput, NamesOld, RefusesFor, Replays, RunsCommand, RunsRequest};
+ghost use Rattle.std.specs.List.{list_any};
+ghost use Rattle.std.specs.Str.{bytes_eq};
+ghost use Rattle.wormweekly_commands.specs.Runs.{Answers, EndsPlain, EndsScript, IsInput, IsOld, IsOneFile, IsOverwriting, IsQueriesFile, IsReplayEnd, NamesInput, NamesOld, NamesOther};
+ghost use Rattle.wormweekly_commands.specs.Runs.{RefusesFor, Replays, RunsCommand, RunsRequest};
 ghost use Rattle.wormweekly_commands.specs.Runs.{Reports, RunsTexts, known_by, writing};
 ghost use Rattle.wormweekly_commands.specs.Reporting.{RefusesWhole};
 ghost use Rattle.wormweekly_commands.specs.Told.{IsLineEnd};
 
 use crate::accepting::{accepted_of, tell_unused};
 use crate::answer::{Answer, answer_of};
+use crate::broken::{Broken, broken_queries, lines_of};
 use crate::change_sheet::ChangeSheet;
 use crate::comparing::{comparison_of, diff_status};
-use crate::concerns::{kept, still_open};
+use crate::concerns::{denies_broken, kept, names, still_open};
 use crate::delivering::{deliver, print, print_sheet, put};
 use crate::drawing::run_draw;
 use crate::expanding::run_expand;
 use crate::fault::{ConsoleFault, Role};
 use crate::folder::{Folder, Unread};
+use crate::noting::{MOST_NOTES, print_more};
 use crate::page_readers::check_readers;
 use crate::paging::{dialect_of, replay_as_page};
 use crate::parts::{Texts, texts_of};
@@ -128,8 +133,34 @@ fn overwritten<F: Folder>(folder: &F, files: &Files) -> Option<Role>
     } else if folder.is_same(output.as_str(), files.config.as_str()) {
         Some(Role::Config)
     } else {
-        overwritten_old(folder, output.as_str(), files)
+        overwritten_other(folder, output.as_str(), files)
     }
+}
+
+// Which of the files that a request may lack a path leads to.
+#[tactic(auto, using(crate::proofs::Overwriting::old_is_input, crate::proofs::Overwriting::names_neither))]
+fn overwritten_other<F: Folder>(folder: &F, output: &str, files: &Files) -> Option<Role>
+    ensures { MatchOption result (NamesOther output.now files.now → ⊥)
+        (IsInput (F.same folder.now) output.now files.now) }
+{
+    if let Some(role) = overwritten_old(folder, output, files) {
+        return Some(role);
+    }
+    let number = overwritten_queries(folder, output, files.queries.as_slice())?;
+    Some(Role::Queries { number })
+}
+
+// The number of the file of queries that a path leads to.
+fn overwritten_queries<F: Folder>(folder: &F, output: &str, queries: &[Text]) -> Option<usize>
+    ensures { MatchOption result (list_any (bytes_eq output.now) queries.now ≡ false)
+        (IsQueriesFile (F.same folder.now) output.now queries.now) }
+{
+    for number in 0..queries.len() {
+        if folder.is_same(output, queries[number].as_str()) {
+            return Some(number);
+        }
+    }
+    None
 }
 
 // Which of the old files, where there are some, a path leads to.
@@ -181,7 +212,7 @@ fn run_texts<F: Folder, W: Sink, E: Sink>(
     } else if request.task == Task::Draw {
         run_draw(alloc, request, texts, folder, sink)
     } else if request.task == Task::Queries {
-        run_queries(alloc, request, texts, folder, sink, errors)
+        run_queries(alloc, request, texts, sink, errors)
     } else {
         run_answer(alloc, request, texts, columns, folder, sink, errors)
     }
@@ -250,19 +281,35 @@ fn run_diff<W: Sink, E: Sink>(
     let comparison = comparison_of(alloc, texts)?;
     let allowed = request.concerns.allowed.as_slice();
     let told = kept(alloc, comparison.changes.as_slice(), allowed)?;
+    let broken = broken_queries(alloc, request, texts, &comparison)?;
     let sheet = ChangeSheet {
         comparison: &comparison,
         changes: told.as_slice(),
+        broken: broken_told(allowed, broken.as_slice()),
     };
     let accepted = accepted_of(alloc, &sheet, &texts.accepted)?;
     let left = still_open(alloc, told.as_slice(), &accepted.changes)?;
     print_changes(alloc, request, &sheet, columns, sink)?;
     tell_unused(alloc, &request.files, &accepted, errors);
     let denied = request.concerns.denied.as_slice();
+    if !sheet.broken.is_empty() && denies_broken(denied) {
+        return Ok(1);
+    }
     Ok(diff_status(denied, left.as_slice()))
 }
 
-// Writes what differs, as a table or as lines of JSON.
+// The queries that are broken, unless they are left out.
+fn broken_told<'b>(allowed: &[Text], broken: &'b [Broken]) -> &'b [Broken]
+    ensures { broken.now ≡ [] → result.now ≡ [] }
+{
+    if names(allowed, "broken-query") {
+        &[]
+    } else {
+        broken
+    }
+}
+
+// Writes what differs: as lines of JSON all, else as a table, and then the queries that are broken.
 fn print_changes<W: Sink>(
     alloc: Global,
     request: &Request,
@@ -272,10 +319,36 @@ fn print_changes<W: Sink>(
 ) -> Result<(), KitFault>
     ensures { IfErr result IsDeviceFault }
 {
-    if sheet.rows() == 0 && !request.options.json {
-        return print(sink, "nothing differs\n");
+    if request.options.json {
+        return print_sheet(alloc, sink, sheet, request.options, columns);
     }
-    print_sheet(alloc, sink, sheet, request.options, columns)
+    let table = ChangeSheet {
+        broken: &[],
+        ..*sheet
+    };
+    if table.rows() > 0 {
+        print_sheet(alloc, sink, &table, request.options, columns)?;
+    } else if sheet.broken.is_empty() {
+        print(sink, "nothing differs\n")?;
+    }
+    print_broken(alloc, sink, sheet)
+}
+
+// Writes the queries that are broken, the first in full.
+fn print_broken<W: Sink>(
+    alloc: Global,
+    sink: &mut W,
+    sheet: &ChangeSheet<'_>,
+) -> Result<(), KitFault>
+    ensures { IfErr result IsDeviceFault }
+{
+    for broken in sheet.broken {
+        match lines_of(alloc, sheet.comparison, broken) {
+            Ok(lines) => print(sink, lines.as_str())?,
+            Err(_) => return Err(KitFault::Memory),
+        }
+    }
+    print_more(alloc, sink, sheet.broken.len().saturating_sub(MOST_NOTES))
 }
 
 // Writes a report. The exit status.

@@ -2,17 +2,16 @@
 ghost use Rattle.std.specs.Prelude.{◌≡◌, IfErr, IfOk, OnOk};
 ghost use Rattle.wormweekly_commands.specs.Answers.{AreRight};
 ghost use Rattle.wormweekly_commands.specs.Faults.{IsDeviceFault, IsRefusal};
-ghost use Rattle.wormweekly_commands.specs.Queries.{IsFilesFault, IsQueriesStatus, IsReadersFault, RefusesQueries};
+ghost use Rattle.wormweekly_commands.specs.Queries.{IsQueriesStatus, IsReadersFault, RefusesQueries};
 
 use crate::concerns::denies;
 use crate::delivering::{flush, print};
-use crate::fault::{ConsoleFault, Role, of_sheet};
-use crate::folder::Folder;
+use crate::fault::{ConsoleFault, of_sheet};
 use crate::judged::{Found, Told, judge_files};
 use crate::message::{TITLES, put_position};
 use crate::noting::{MOST_NOTES, print_more};
 use crate::paging::{dialect_of, reader_in};
-use crate::parts::{Texts, text_at};
+use crate::parts::Texts;
 use crate::telling::pair_of;
 use metric_base::{Items, Text};
 use metric_command_lines::Request;
@@ -20,18 +19,17 @@ use metric_exposition::Dialect;
 use metric_exposure::{Outlet, exposure_faults};
 use metric_io::Sink;
 use metric_kit_commands::{Declared, KitFault, declared_of};
-use metric_queries::add_page;
+use metric_queries::{Served, add_page};
 use metric_resolve::resolve_streams;
 use metric_sheet::{Cell, Row, Sheet, write_json};
 use metric_views::Stream;
 use std::alloc::{AllocError, Global};
 
 /// Writes what queries ask for that no page can have. The exit status: 1 where a kind of it is denied.
-pub(crate) fn run_queries<F: Folder, W: Sink, E: Sink>(
+pub(crate) fn run_queries<W: Sink, E: Sink>(
     alloc: Global,
     request: &Request,
     texts: &Texts,
-    folder: &F,
     sink: &mut W,
     errors: &mut E,
 ) -> Result<u8, ConsoleFault>
@@ -41,7 +39,7 @@ pub(crate) fn run_queries<F: Folder, W: Sink, E: Sink>(
     ensures untouched { IfErr result (λ fault. IsRefusal fault
         → W.contents sink.new ≡ W.contents sink.old) }
 {
-    let found = found_of(alloc, request, texts, folder)?;
+    let found = found_of(alloc, request, texts)?;
     print_told(alloc, request, found.told.as_slice(), sink)?;
     tell_left_out(alloc, &found, errors);
     let denied = request.concerns.denied.as_slice();
@@ -62,42 +60,41 @@ fn status_of(denied: &[Text], told: &[Told]) -> u8
     }
 }
 
-// Reads the files of queries, and judges them.
-fn found_of<F: Folder>(
-    alloc: Global,
-    request: &Request,
-    texts: &Texts,
-    folder: &F,
-) -> Result<Found, ConsoleFault>
+// What is told of the files of queries.
+fn found_of(alloc: Global, request: &Request, texts: &Texts) -> Result<Found, ConsoleFault>
     ensures right { OnOk result (AreRight texts.now.parts) }
     ensures first { IfErr result (RefusesQueries texts.now.parts) }
 {
     let declared = declared_of(alloc, &texts.parts)?;
     let streams = resolve_streams(alloc, &declared.catalogue, &declared.config)?;
     let readers = readers_of(alloc, request, &declared, streams.as_slice())?;
-    let files = files_of(alloc, folder, &request.files.queries)?;
-    let dialect = dialect_of(request.options.form).unwrap_or(Dialect::OpenMetrics);
-    let mut served = Vec::new(alloc);
-    for reader in readers.as_slice() {
-        let catalogue = &declared.catalogue;
-        add_page(
-            alloc,
-            &mut served,
-            dialect,
-            catalogue,
-            streams.as_slice(),
-            *reader,
-        )?;
-    }
-    let pair = pair_of(&request.files, texts, &declared);
+    let served = pages_of(alloc, request, &declared, streams.as_slice(), &readers)?;
     Ok(judge_files(
         alloc,
         request,
-        pair,
+        pair_of(&request.files, texts, &declared),
         streams.as_slice(),
-        &served,
-        files.as_slice(),
+        served.as_slice(),
+        texts.queries.as_slice(),
+        &[],
     )?)
+}
+
+/// The streams of the pages of readers, in the dialect that is asked for.
+pub(crate) fn pages_of<'d>(
+    alloc: Global,
+    request: &Request,
+    declared: &'d Declared,
+    streams: &'d [Stream],
+    readers: &Items<u32>,
+) -> Result<Vec<Served<'d>>, AllocError> {
+    let dialect = dialect_of(request.options.form).unwrap_or(Dialect::OpenMetrics);
+    let catalogue = &declared.catalogue;
+    let mut served = Vec::new(alloc);
+    for reader in readers.as_slice() {
+        add_page(alloc, &mut served, dialect, catalogue, streams, *reader)?;
+    }
+    Ok(served)
 }
 
 // The readers whose pages are asked about: the one that is named, else each that a page can be made of. Where there is
@@ -110,48 +107,34 @@ fn readers_of(
 ) -> Result<Items<u32>, ConsoleFault>
     ensures { IfErr result IsReadersFault }
 {
-    let mut found = Items::new(alloc);
-    let readers = declared.config.readers();
     if request.reader.is_none() {
-        for reader in 0..readers.len() as u32 {
-            if has_page(alloc, declared, streams, reader)? {
-                found.push(reader)?;
-            }
+        let paged = paged_readers(alloc, declared, streams)?;
+        if !paged.is_empty() {
+            return Ok(paged);
         }
     }
-    if found.is_empty() {
-        let catalogue = &declared.catalogue;
-        let reader = reader_in(alloc, &request.reader, catalogue, readers, streams)?;
-        found.push(reader)?;
-    }
-    Ok(found)
+    let (catalogue, readers) = (&declared.catalogue, declared.config.readers());
+    let reader = reader_in(alloc, &request.reader, catalogue, readers, streams)?;
+    let mut named = Items::new(alloc);
+    named.push(reader)?;
+    Ok(named)
 }
 
-// Whether a server would hold each sample of a reader's page.
-fn has_page(
+/// The readers that a page can be made of: a server would hold each sample.
+pub(crate) fn paged_readers(
     alloc: Global,
     declared: &Declared,
     streams: &[Stream],
-    reader: u32,
-) -> Result<bool, AllocError> {
-    let catalogue = &declared.catalogue;
-    let faults = exposure_faults(alloc, catalogue, streams, reader, Outlet::Prometheus)?;
-    Ok(faults.is_empty())
-}
-
-// The texts of the files of queries.
-fn files_of<F: Folder>(
-    alloc: Global,
-    folder: &F,
-    paths: &Items<Text>,
-) -> Result<Items<Text>, ConsoleFault>
-    ensures { IfErr result IsFilesFault }
-{
-    let mut files = Items::new(alloc);
-    for (number, path) in paths.as_slice().iter().enumerate() {
-        files.push(text_at(alloc, folder, path, Role::Queries { number })?)?;
+) -> Result<Items<u32>, AllocError> {
+    let mut paged = Items::new(alloc);
+    for reader in 0..declared.config.readers().len() as u32 {
+        let catalogue = &declared.catalogue;
+        let faults = exposure_faults(alloc, catalogue, streams, reader, Outlet::Prometheus)?;
+        if faults.is_empty() {
+            paged.push(reader)?;
+        }
     }
-    Ok(files)
+    Ok(paged)
 }
 
 // Writes what is told: as lines of JSON all, as text the first, and last how many more there are.
@@ -170,8 +153,8 @@ fn print_told<W: Sink>(
         };
     }
     for one in told {
-        if let Some(message) = &one.message {
-            print(sink, message.text.as_str())?;
+        if let Some(detail) = &one.detail {
+            print(sink, detail.message.text.as_str())?;
         }
     }
     print_more(alloc, sink, told.len().saturating_sub(MOST_NOTES))
@@ -191,10 +174,10 @@ fn tell_left_out<E: Sink>(alloc: Global, found: &Found, errors: &mut E) {
     };
 }
 
-// What is told, as rows for machines.
+/// What is told, as rows for machines.
 #[derive(Clone, Copy)]
-struct ToldSheet<'a> {
-    told: &'a [Told],
+pub(crate) struct ToldSheet<'a> {
+    pub told: &'a [Told],
 }
 
 impl Sheet for ToldSheet<'_> {
@@ -211,8 +194,8 @@ impl Sheet for ToldSheet<'_> {
         if let Some(told) = self.told.get(number) {
             let kind = told.kind.name();
             row.text(kind);
-            match &told.message {
-                Some(message) => message.put_place(&mut row),
+            match &told.detail {
+                Some(detail) => detail.message.put_place(&mut row),
                 None => {
                     row.nothing();
                     put_position(&mut row, None);

@@ -2,24 +2,31 @@
 ghost use Rattle.std.specs.Prelude.{IfErr, IfOk};
 ghost use Rattle.wormweekly_commands.specs.Reporting.{AreDifferences, HasParts, IsReport, RefusesReport, RefusesWhole};
 
+use crate::broken::{Broken, broken_queries};
 use crate::comparing::{Comparison, compared};
 use crate::drawing::picture_of;
 use crate::fault::ConsoleFault;
+use crate::judged::{Told, judge_files};
 use crate::listing::{Listing, listing_of};
 use crate::notes::{Notes, notes_of};
 use crate::page_readers::check_readers;
 use crate::parts::Texts;
+use crate::queries::{paged_readers, pages_of};
 use crate::rooms::{Rooms, rooms_of};
+use crate::telling::pair_of;
 use metric_command_lines::Request;
-use std::alloc::Global;
+use std::alloc::{AllocError, Global};
 
-/// What a report has: the streams, the remarks, the budgets, the picture, and what differs from old files.
+/// What a report has: the streams, the remarks, the budgets, the picture, what differs from old files, and what is told of
+/// queries, and of those that the change breaks.
 pub(crate) struct Report {
     pub listing: Listing,
     pub notes: Notes,
     pub rooms: Rooms,
     pub picture: String,
     pub comparison: Option<Comparison>,
+    pub told: Vec<Told>,
+    pub broken: Vec<Broken>,
 }
 
 impl Drop for Report {
@@ -30,6 +37,8 @@ impl Drop for Report {
             rooms: _rooms,
             picture: _picture,
             comparison: _comparison,
+            told: _told,
+            broken: _broken,
         } = self;
     }
 }
@@ -65,13 +74,52 @@ fn all_of(alloc: Global, request: &Request, texts: &Texts) -> Result<Report, Con
     let notes = notes_of(alloc, request, &texts.parts)?;
     let rooms = rooms_of(alloc, &texts.parts)?;
     let picture = picture_of(alloc, &texts.parts, &comparison)?;
+    let told = told_of(alloc, request, texts, &notes)?;
+    let broken = broken_of(alloc, request, texts, &comparison)?;
     Ok(Report {
         listing,
         notes,
         rooms,
         picture,
         comparison,
+        told,
+        broken,
     })
+}
+
+// What queries ask for that no page can have.
+fn told_of(
+    alloc: Global,
+    request: &Request,
+    texts: &Texts,
+    notes: &Notes,
+) -> Result<Vec<Told>, AllocError> {
+    let (declared, streams) = (&notes.declared, notes.streams.as_slice());
+    let readers = paged_readers(alloc, declared, streams)?;
+    let served = pages_of(alloc, request, declared, streams, &readers)?;
+    let found = judge_files(
+        alloc,
+        request,
+        pair_of(&request.files, texts, declared),
+        streams,
+        served.as_slice(),
+        texts.queries.as_slice(),
+        &[],
+    )?;
+    Ok(found.told)
+}
+
+// The queries that the change breaks, where there are old files.
+fn broken_of(
+    alloc: Global,
+    request: &Request,
+    texts: &Texts,
+    comparison: &Option<Comparison>,
+) -> Result<Vec<Broken>, AllocError> {
+    match comparison {
+        Some(comparison) => broken_queries(alloc, request, texts, comparison),
+        None => Ok(Vec::new(alloc)),
+    }
 }
 
 /// What differs from the old files, where there are some.

@@ -1,9 +1,11 @@
 //! A report as a page of HTML, in one file that loads nothing.
+use crate::broken::Broken;
 use crate::change_sheet::ChangeSheet;
 use crate::comparing::Comparison;
 use crate::listing::StreamSheet;
 use crate::note_sheet::NoteSheet;
 use crate::parts::Texts;
+use crate::queries::ToldSheet;
 use crate::report::Report;
 use crate::rooms::RoomSheet;
 use crate::shares::{budget_shares, stream_shares};
@@ -72,9 +74,12 @@ pub(crate) fn report_page(
     push_head(&mut page, request, texts, report)?;
     push_safety(alloc, &mut page, request, texts)?;
     if let Some(comparison) = &report.comparison {
-        push_changes(alloc, &mut page, comparison)?;
+        push_changes(alloc, &mut page, comparison, report.broken.as_slice())?;
     }
     push_notes(alloc, &mut page, request, texts, report)?;
+    if !texts.queries.is_empty() {
+        push_queries(alloc, &mut page, report)?;
+    }
     push_streams(alloc, &mut page, report)?;
     push_budgets(alloc, &mut page, request, report)?;
     push_picture(&mut page, report)?;
@@ -95,7 +100,7 @@ fn push_head(
     push_title(page, request)?;
     push_text(page, "</h1>\n<p>")?;
     if let Some(comparison) = &report.comparison {
-        push_breaks(page, comparison)?;
+        push_breaks(page, comparison, report.broken.len())?;
     }
     push_count(page, "Instruments: ", report.rooms.rooms.len())?;
     push_count(page, ", streams: ", report.listing.streams.list().len())?;
@@ -128,11 +133,18 @@ fn push_title(page: &mut Vec<u8>, request: &Request) -> Result<(), AllocError> {
     push_html_text(page, shown(request.files.config.as_str()))
 }
 
-fn push_breaks(page: &mut Vec<u8>, comparison: &Comparison) -> Result<(), AllocError> {
+fn push_breaks(
+    page: &mut Vec<u8>,
+    comparison: &Comparison,
+    queries: usize,
+) -> Result<(), AllocError> {
     let changes = comparison.changes.as_slice();
     let breaking = changes.iter().filter(|change| change.is_breaking()).count();
     push_count(page, "Changes: ", changes.len())?;
     push_count(page, ", of which break: ", breaking)?;
+    if queries > 0 {
+        push_count(page, ", and queries: ", queries)?;
+    }
     push_text(page, ".</p>\n<p>")
 }
 
@@ -165,11 +177,13 @@ fn push_changes(
     alloc: Global,
     page: &mut Vec<u8>,
     comparison: &Comparison,
+    broken: &[Broken],
 ) -> Result<(), AllocError> {
     push_text(page, "<h2>What changes</h2>\n")?;
     let sheet = ChangeSheet {
         comparison,
         changes: comparison.changes.as_slice(),
+        broken,
     };
     let caption = "Each row is a change from the old files; those that break something are marked";
     push_rows(alloc, page, caption, &sheet, "<p>Nothing differs.</p>\n")
@@ -206,6 +220,20 @@ fn push_notes(
     };
     let caption = "Remarks on the two files, with their places";
     push_rows(alloc, page, caption, &sheet, "<p>Nothing.</p>\n")
+}
+
+// What queries ask for that no page can have, with its place.
+fn push_queries(alloc: Global, page: &mut Vec<u8>, report: &Report) -> Result<(), AllocError> {
+    push_text(page, "<h2>What queries ask for in vain</h2>\n")?;
+    let told = report.told.as_slice();
+    let caption = "What queries ask for that no page can have, with its place";
+    push_rows(
+        alloc,
+        page,
+        caption,
+        &ToldSheet { told },
+        "<p>Nothing.</p>\n",
+    )
 }
 
 // The streams, and how full the limit of each may become.

@@ -341,6 +341,35 @@ pub(crate) fn pair_of<'t>(files: &'t Files, texts: &'t Texts, declared: &'t Decl
     }
 }
 
+/// The old catalogue and config of a comparison, with the texts that they were read from.
+pub(crate) fn old_pair_of<'t>(
+    files: &'t Files,
+    texts: &'t Texts,
+    declared: &'t Declared,
+) -> Pair<'t> {
+    let parts = match &texts.old {
+        Some(parts) => parts,
+        None => &texts.parts,
+    };
+    Pair {
+        catalogue: &declared.catalogue,
+        catalogue_source: named_source(&files.old_catalogue, &parts.catalogue),
+        config: &declared.config,
+        config_source: named_source(&files.old_config, &parts.config),
+    }
+}
+
+/// A text with the path of its file, which may lack.
+pub(crate) fn named_source<'t>(path: &'t Option<Text>, text: &'t Text) -> NamedText<'t> {
+    match path {
+        Some(path) => source_of(path, text),
+        None => NamedText {
+            name: "",
+            text: text.as_str(),
+        },
+    }
+}
+
 // The line of the script at which it is none; of one that no line starts, no place.
 fn script_message(
     alloc: Global,

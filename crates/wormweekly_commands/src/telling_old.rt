@@ -1,11 +1,10 @@
 //! What a person is told of a fault of the old files of a comparison.
 use crate::message::Message;
 use crate::parts::Texts;
-use crate::telling::source_of;
-use metric_base::Text;
+use crate::telling::named_source;
 use metric_command_lines::Files;
 use metric_kit_commands::KitFault;
-use metric_messages::{NamedText, diagnose_catalogue, diagnose_config};
+use metric_messages::{diagnose_catalogue, diagnose_config};
 use std::alloc::{AllocError, Global};
 
 /// A fault of the old files, with its place and its cause.
@@ -26,23 +25,13 @@ pub(crate) fn old_message(
     };
     match fault {
         KitFault::Catalogue(fault) => {
-            let source = named(&files.old_catalogue, &parts.catalogue);
+            let source = named_source(&files.old_catalogue, &parts.catalogue);
             Message::diagnosed(alloc, diagnose_catalogue(alloc, source, fault))
         }
         KitFault::Config(fault) => {
-            let source = named(&files.old_config, &parts.config);
+            let source = named_source(&files.old_config, &parts.config);
             Message::diagnosed(alloc, diagnose_config(alloc, source, fault))
         }
         _ => Message::plain(alloc, fault),
-    }
-}
-
-fn named<'t>(path: &'t Option<Text>, text: &'t Text) -> NamedText<'t> {
-    match path {
-        Some(path) => source_of(path, text),
-        None => NamedText {
-            name: "",
-            text: text.as_str(),
-        },
     }
 }

@@ -2,7 +2,7 @@
 ghost use Rattle.std.specs.Prelude.{◌≡◌, false, IfOk};
 ghost use Rattle.clap.specs.Words.{App, Rule, app_of, new_app, rule_of, with_rule};
 ghost use Rattle.clap.specs.declared.builder.command.Command.TheViews.{out-Command as fields_of};
-ghost use Rattle.metric_command_lines.specs.Apps.{bare_app, check_app, draw_app, first_app, headroom_app, lint_app, make_app, pair_app, program_app};
+ghost use Rattle.metric_command_lines.specs.Apps.{bare_app, check_app, draw_app, first_app, headroom_app, lint_app, make_app, pair_app, program_app, queried_app};
 ghost use Rattle.metric_command_lines.specs.Apps.{replay_app, second_app, show_app, table_app};
 
 use crate::programs::with_command;
@@ -108,6 +108,22 @@ pub(crate) fn with_argument<'a>(
         → IfOk result (λ command. (fields_of command).has_globals ≡ false) }
 {
     command?.arg(argument)
+}
+
+/// A command that may be asked about queries.
+pub(crate) fn with_queries<'a>(
+    alloc: Global,
+    command: Result<Command<'a>, AllocError>,
+) -> Result<Command<'a>, AllocError>
+    ensures app { (before : App) → IfOk command.entry (λ command. app_of command ≡ before)
+        → IfOk result (λ command. app_of command ≡ queried_app before) }
+    ensures local { IfOk command.entry (λ command. (fields_of command).has_globals ≡ false)
+        → IfOk result (λ command. (fields_of command).has_globals ≡ false) }
+{
+    let help = "Rules, a dashboard or queries, as often as wanted: what they ask for in vain";
+    let command = with_argument(command, texts(alloc, "queries", "FILE", help));
+    let help = "A label that the server adds to each line, beside `job` and `instance`";
+    with_argument(command, texts(alloc, "label", "NAME", help))
 }
 
 // The program without a command.

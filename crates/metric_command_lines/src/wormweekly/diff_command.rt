@@ -2,10 +2,10 @@
 ghost use Rattle.std.specs.Prelude.{◌≡◌, false, IfOk};
 ghost use Rattle.clap.specs.Words.{app_of};
 ghost use Rattle.clap.specs.declared.builder.command.Command.TheViews.{out-Command as fields_of};
-ghost use Rattle.metric_command_lines.specs.Apps.{compared_app, diff_app, old_app};
+ghost use Rattle.metric_command_lines.specs.Apps.{compared_app, denied_app, diff_app, old_app};
 
 use crate::wormweekly::arguments::{file, flag, text, texts};
-use crate::wormweekly::commands::{named, with_argument};
+use crate::wormweekly::commands::{named, with_argument, with_queries};
 use clap::Command;
 use std::alloc::{AllocError, Global};
 
@@ -48,6 +48,7 @@ Kinds, each to be named as often as wanted:
   combinations       combinations that are listed now, or no longer
   budget             another budget
   headroom           another greatest total
+  broken-query       a query of which nothing was told before: see `queries`
 
 Example:
   wormweekly diff old/catalogue.toml old/config.toml catalogue.toml config.toml --deny breaking";
@@ -55,6 +56,16 @@ Example:
 /// The command `diff`.
 pub(crate) fn diff<'a>(alloc: Global) -> Result<Command<'a>, AllocError>
     ensures app { IfOk result (λ command. app_of command ≡ diff_app) }
+    ensures local { IfOk result (λ command. (fields_of command).has_globals ≡ false) }
+{
+    let command = denied(alloc);
+    let help = "Print a line of JSON for each change";
+    with_queries(alloc, with_argument(command, flag(alloc, "json", help)))
+}
+
+// The command with what counts of the changes.
+fn denied<'a>(alloc: Global) -> Result<Command<'a>, AllocError>
+    ensures app { IfOk result (λ command. app_of command ≡ denied_app) }
     ensures local { IfOk result (λ command. (fields_of command).has_globals ≡ false) }
 {
     let command = compared(alloc);
@@ -66,9 +77,7 @@ pub(crate) fn diff<'a>(alloc: Global) -> Result<Command<'a>, AllocError>
     let help = "End with status 1 where there are such changes; `breaking`: any that breaks";
     let command = with_argument(command, texts(alloc, "deny", "KIND", help));
     let help = "Leave such changes out";
-    let command = with_argument(command, texts(alloc, "allow", "KIND", help));
-    let help = "Print a line of JSON for each change";
-    with_argument(command, flag(alloc, "json", help))
+    with_argument(command, texts(alloc, "allow", "KIND", help))
 }
 
 // The command with its four files.

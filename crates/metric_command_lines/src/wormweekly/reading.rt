@@ -386,7 +386,7 @@ fn is_concern(task: Task, word: &str) -> bool
     ensures { result ≡ is_concern task word.now }
 {
     match task {
-        Task::Diff => is_change(word),
+        Task::Diff => is_change(word) || word == "broken-query",
         Task::Queries => is_query_kind(word),
         _ => word == "exposure" || is_kind(word),
     }

@@ -6,7 +6,7 @@ ghost use Rattle.metric_command_lines.specs.Apps.{changed_app, old_rule, report_
 
 use crate::wormweekly::arguments::{flag, number, output, text, texts};
 use crate::wormweekly::commands::{
-    FAULT_AS_JSON, MOST_INSTANCES, MOST_RATE, over_pair, with_argument,
+    FAULT_AS_JSON, MOST_INSTANCES, MOST_RATE, over_pair, with_argument, with_queries,
 };
 use clap::{Arg, Command};
 use std::alloc::{AllocError, Global};
@@ -34,7 +34,7 @@ pub(crate) fn report<'a>(alloc: Global) -> Result<Command<'a>, AllocError>
     let command = with_argument(command, number(alloc, "rate", help, 1, MOST_RATE, "10000"));
     let help = "Processes that a backend adds up";
     let instances = number(alloc, "instances", help, 1, MOST_INSTANCES, "1");
-    with_argument(command, instances)
+    with_queries(alloc, with_argument(command, instances))
 }
 
 /// A command over a catalogue and a config, with its output and the old files.
