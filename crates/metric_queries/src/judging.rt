@@ -94,13 +94,21 @@ fn unread_of(
     asked: &[Asked],
 ) -> Result<Vec<QueryRemark>, AllocError> {
     let mut unread = Vec::new(alloc);
-    for (number, (test, asked)) in tests.iter().zip(asked).enumerate() {
-        if matches!(asked.test, Test::Any) {
+    for (number, test) in tests.iter().enumerate() {
+        if is_unread(asked, number) {
             let kind = QueryKind::BadPattern;
             unread.push(remark_of(kind, test.at, Some(number), None))?;
         }
     }
     Ok(unread)
+}
+
+// Whether the expression of the matcher of a number cannot be read.
+fn is_unread(asked: &[Asked], number: usize) -> bool {
+    match asked.get(number) {
+        Some(asked) => matches!(asked.test, Test::Any),
+        None => false,
+    }
 }
 
 // Why no line matches: its name, else each matcher that takes no line of the name, else two or all of them together.
@@ -254,6 +262,9 @@ fn add_hints(
     let places = places.as_slice();
     let tests = selector.tests.as_slice();
     for (number, test) in tests.iter().enumerate() {
+        if is_unread(asked, number) {
+            continue;
+        }
         if let Some(kind) = hint_of(alloc, known, places, selector, test)? {
             let stream = first_of(known, places);
             hints.push(remark_of(kind, test.at, Some(number), stream))?;
