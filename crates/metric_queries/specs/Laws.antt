@@ -1,6 +1,6 @@
 -- What holds of selectors that are told.
-use Rattle.std.specs.Prelude.{◌≡◌, ℕ, false, true, List, Some, length, map, slice_get}
-use Rattle.std.specs.List.{list_all}
+use Rattle.std.specs.Prelude.{◌≡◌, ◌≢◌, ℕ, [], false, true, List, Some, length, map, slice_get}
+use Rattle.std.specs.List.{AllZip, list_all}
 use Rattle.metric_contents.specs.declared.contents.Contents.{Contents}
 use Rattle.metric_contents.specs.declared.contents.Instrument.{Instrument}
 use Rattle.metric_facts.specs.Facts.{is_full_set, key_facts}
@@ -8,9 +8,14 @@ use Rattle.metric_views.specs.declared.stream.Stream.{Stream}
 use Rattle.metric_exposure.specs.Laws.{Passes}
 use Rattle.metric_exposure.specs.Sources.{keys_of}
 use Rattle.metric_exposition.specs.declared.dialect.Dialect.{Dialect}
+use Rattle.metric_promql.specs.declared.selector.LabelTest.{LabelTest}
+use Rattle.metric_promql.specs.declared.selector.Selector.{Selector}
 use Rattle.metric_queries.specs.ByKeys.{IsServed, served_matches}
 use Rattle.metric_queries.specs.Lines.{CanMatch}
+use Rattle.metric_queries.specs.Remarks.{AreRemarks, IsAsked}
 use Rattle.metric_queries.specs.declared.asked.Asked.{Asked}
+use Rattle.metric_queries.specs.declared.judging.Remarks.{Remarks}
+use Rattle.metric_queries.specs.declared.known.Known.{Known}
 use Rattle.metric_queries.specs.declared.served.Served.{Served}
 
 -- # keys are enough (profile)
@@ -45,3 +50,23 @@ SetsAreFound =
     → IsServed dialect contents stream served
     → served_matches added served asked ≡ true
     → CanMatch added dialect contents stream asked
+
+-- No line that a page can have of the stream fulfils what the matchers ask for.
+pub record MatchNone (added : List (List ℕ)) (dialect : Dialect) (contents : Contents)
+    (stream : Stream) (matchers : List LabelTest) : Type 0 where
+  pub asked : List Asked
+  pub are_asked : AllZip IsAsked matchers asked
+  pub none : CanMatch added dialect contents stream asked → ⊥
+
+-- # what is told matches nothing (profile)
+-- Where a reason is told of a selector, it matches no line that a page can have of any stream of
+-- the pages, of any set and in any window, where the streams of their readers pass for pages.
+abbrev pub ToldMatchNothing : Type 0
+ToldMatchNothing =
+    (known : Known) (selector : Selector) (remarks : Remarks) (dialect : Dialect)
+    (contents : Contents) (streams : List Stream) (reader number place : ℕ) (stream : Stream)
+    (served : Served) → AreRemarks known selector remarks → remarks.reasons.items ≢ []
+    → Passes contents streams reader number stream
+    → slice_get known.served.now place ≡ Some served
+    → IsServed dialect contents stream served
+    → MatchNone known.added.now dialect contents stream selector.tests

@@ -1,5 +1,5 @@
 //! What holds of selectors that are told, as a law of the definitions.
-ghost use Rattle.metric_queries.specs.Laws.{KeysAreEnough, SetsAreFound};
+ghost use Rattle.metric_queries.specs.Laws.{KeysAreEnough, SetsAreFound, ToldMatchNothing};
 
 use metric_exposure::names_and_labels_are_sound;
 
@@ -17,4 +17,12 @@ pub fn sets_are_found()
     ensures { SetsAreFound }
 {
     names_and_labels_are_sound();
+}
+
+/// Where a reason is told of a selector ([`remarks_of`](crate::remarks_of)), it matches no line that a page can have of any
+/// stream, of any set and in any window. Does nothing.
+pub fn told_match_nothing()
+    ensures { ToldMatchNothing }
+{
+    keys_are_enough();
 }

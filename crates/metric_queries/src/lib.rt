@@ -22,7 +22,7 @@ mod test;
 pub use asked::Asked;
 pub use judging::{QueryRemark, Remarks, remarks_of};
 pub use known::{Known, choices_of};
-pub use laws::{keys_are_enough, sets_are_found};
+pub use laws::{keys_are_enough, sets_are_found, told_match_nothing};
 pub use matching::can_match;
 pub use sample::Sample;
 pub use served::{Served, add_page, stream_named};

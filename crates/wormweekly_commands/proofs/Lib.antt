@@ -5,3 +5,4 @@ pub mod PageEnds
 pub mod Sides
 pub mod Reports
 pub mod Overwriting
+pub mod Held

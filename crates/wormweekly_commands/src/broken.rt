@@ -3,9 +3,9 @@ ghost use Rattle.std.specs.Prelude.{◌≡◌, [], IfOk};
 
 use crate::change_cells::before_cell;
 use crate::comparing::Comparison;
-use crate::judged::{Detail, Told, judge_files};
+use crate::judged::{Detail, Pages, Told, judge_files};
 use crate::parts::Texts;
-use crate::queries::{paged_readers, pages_of};
+use crate::queries::all_pages;
 use crate::rooms::Rooms;
 use crate::telling::{old_pair_of, pair_of};
 use metric_command_lines::Request;
@@ -38,18 +38,14 @@ pub(crate) fn broken_queries(
     if request.files.queries.is_empty() {
         return Ok(Vec::new(alloc));
     }
-    let streams = comparison.old_streams.as_slice();
-    let readers = paged_readers(alloc, &comparison.old.declared, streams)?;
-    let served = pages_of(alloc, request, &comparison.old.declared, streams, &readers)?;
-    let before = judge_files(
-        alloc,
-        request,
-        old_pair_of(&request.files, texts, &comparison.old.declared),
+    let (declared, streams) = (&comparison.old.declared, comparison.old_streams.as_slice());
+    let served = all_pages(alloc, request, declared, streams)?;
+    let pages = Pages {
+        pair: old_pair_of(&request.files, texts, declared),
         streams,
-        served.as_slice(),
-        texts.queries.as_slice(),
-        &[],
-    )?;
+        served: served.as_slice(),
+    };
+    let before = judge_files(alloc, request, texts, pages, &[])?;
     let told = told_now(alloc, request, texts, comparison, before.told.as_slice())?;
     with_reasons(alloc, comparison, served.as_slice(), told)
 }
@@ -62,19 +58,14 @@ fn told_now(
     comparison: &Comparison,
     before: &[Told],
 ) -> Result<Vec<Told>, AllocError> {
-    let streams = comparison.new_streams.as_slice();
-    let readers = paged_readers(alloc, &comparison.new.declared, streams)?;
-    let served = pages_of(alloc, request, &comparison.new.declared, streams, &readers)?;
-    let found = judge_files(
-        alloc,
-        request,
-        pair_of(&request.files, texts, &comparison.new.declared),
+    let (declared, streams) = (&comparison.new.declared, comparison.new_streams.as_slice());
+    let served = all_pages(alloc, request, declared, streams)?;
+    let pages = Pages {
+        pair: pair_of(&request.files, texts, declared),
         streams,
-        served.as_slice(),
-        texts.queries.as_slice(),
-        before,
-    )?;
-    Ok(found.told)
+        served: served.as_slice(),
+    };
+    Ok(judge_files(alloc, request, texts, pages, before)?.told)
 }
 
 fn with_reasons(
@@ -179,10 +170,11 @@ fn is_of_boundaries(change: &Change) -> bool {
 fn is_of_combinations(change: &Change) -> bool {
     matches!(
         change,
-        Change::CombinationGone { .. } | Change::InstrumentChanged {
-            part: InstrumentPart::Listed,
-            ..
-        }
+        Change::CombinationGone { .. }
+            | Change::InstrumentChanged {
+                part: InstrumentPart::Listed,
+                ..
+            }
     )
 }
 

@@ -2,6 +2,7 @@
 use crate::concerns::names;
 use crate::message::Message;
 use crate::noting::MOST_NOTES;
+use crate::parts::Texts;
 use crate::query_message::{cause_of, words_of};
 use crate::shown_path::shown;
 use metric_base::Text;
@@ -50,14 +51,21 @@ pub(crate) struct Found {
     pub left_out: usize,
 }
 
+/// The pages that queries are judged by: what they were made of, and the streams on them.
+#[derive(Clone, Copy)]
+pub(crate) struct Pages<'a, 'p> {
+    pub pair: Pair<'a>,
+    pub streams: &'a [Stream],
+    pub served: &'a [Served<'p>],
+}
+
 // What a file is judged by, and what is found so far.
 #[derive(Drop)]
 struct Judge<'a, 'p> {
     alloc: Global,
     allowed: &'a [Text],
     skipped: &'a [Told],
-    pair: Pair<'a>,
-    streams: &'a [Stream],
+    pages: Pages<'a, 'p>,
     known: Known<'a, 'p>,
     query: Query,
     found: Found,
@@ -68,24 +76,22 @@ struct Judge<'a, 'p> {
 pub(crate) fn judge_files(
     alloc: Global,
     request: &Request,
-    pair: Pair<'_>,
-    streams: &[Stream],
-    served: &[Served<'_>],
-    files: &[Text],
+    texts: &Texts,
+    pages: Pages<'_, '_>,
     skipped: &[Told],
 ) -> Result<Found, AllocError> {
+    let files = texts.queries.as_slice();
     let read = read_all(alloc, request, files)?;
     let recorded = recorded_of(alloc, &read)?;
     let mut judge = Judge {
         alloc,
         allowed: request.concerns.allowed.as_slice(),
         skipped,
-        pair,
-        streams,
+        pages,
         known: Known {
             added: request.concerns.labels.as_slice(),
             recorded: &recorded,
-            served,
+            served: pages.served,
         },
         query: Query { file: 0, number: 0 },
         found: Found {
@@ -231,8 +237,8 @@ impl Judge<'_, '_> {
         }
         let words = words_of(
             alloc,
-            self.pair,
-            self.streams,
+            self.pages.pair,
+            self.pages.streams,
             &self.known,
             selector,
             remark,

@@ -66,6 +66,7 @@ pub(crate) fn texts_of<F: Folder>(
 }
 
 // The texts of the files of queries.
+#[tactic(auto, using(crate::proofs::Held::texts_more))]
 fn query_texts<F: Folder>(
     alloc: Global,
     folder: &F,
@@ -78,9 +79,12 @@ fn query_texts<F: Folder>(
     for number in 0..paths.len() {
         let role = Role::Queries { number };
         let text = text_at(alloc, folder, &paths[number], role)?;
-        if texts.push(text).is_err() {
-            let cause = Unread::Memory;
-            return Err(ConsoleFault::Unread { role, cause });
+        match texts.push(text) {
+            Ok(()) => {}
+            Err(refused) => {
+                let cause = Unread::from(refused);
+                return Err(ConsoleFault::Unread { role, cause });
+            }
         }
     }
     Ok(texts)

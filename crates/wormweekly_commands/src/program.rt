@@ -1,7 +1,7 @@
 //! A request, run.
 ghost use Rattle.std.specs.Prelude.{◌≡◌, ◌≢◌, IfErr, IfOk, IsSome, IsSomeAnd, MatchOption, None, OnErr, OnOk, [], false, true};
 ghost use Rattle.wormweekly_commands.specs.Answers.{HasReaders, IsUnknownReader};
-ghost use Rattle.wormweekly_commands.specs.Comparing.{Compares, RefusesDiff};
+ghost use Rattle.wormweekly_commands.specs.Comparing.{Compares, RefusesDiff, broken_status};
 ghost use Rattle.wormweekly_commands.specs.Faults.{IsDeviceFault, IsRefusal};
 ghost use Rattle.metric_kit_commands.specs.Commands.{HasNeeded, sink_run};
 ghost use Rattle.metric_kit_commands.specs.Replaying.{needs_of, plain_options};
@@ -37,6 +37,7 @@ use crate::report_page::report_page;
 use crate::telling::{stop_in_form, tell_line, warn};
 use metric_base::Text;
 use metric_command_lines::{Files, Request, RequestFault, Task};
+use metric_diff::Change;
 use metric_io::Sink;
 use metric_kit_commands::KitFault;
 use metric_parts::Parts;
@@ -151,6 +152,7 @@ fn overwritten_other<F: Folder>(folder: &F, output: &str, files: &Files) -> Opti
 }
 
 // The number of the file of queries that a path leads to.
+#[tactic(auto, using(crate::proofs::Overwriting::none_more))]
 fn overwritten_queries<F: Folder>(folder: &F, output: &str, queries: &[Text]) -> Option<usize>
     ensures { MatchOption result (list_any (bytes_eq output.now) queries.now ≡ false)
         (IsQueriesFile (F.same folder.now) output.now queries.now) }
@@ -292,10 +294,24 @@ fn run_diff<W: Sink, E: Sink>(
     print_changes(alloc, request, &sheet, columns, sink)?;
     tell_unused(alloc, &request.files, &accepted, errors);
     let denied = request.concerns.denied.as_slice();
-    if !sheet.broken.is_empty() && denies_broken(denied) {
-        return Ok(1);
+    Ok(broken_status(denied, has_broken(sheet.broken), left.as_slice()))
+}
+
+fn has_broken(broken: &[Broken]) -> bool
+    ensures { broken.now ≡ [] → result ≡ false }
+{
+    !broken.is_empty()
+}
+
+// 1 where queries break and that is denied, else the status of the changes that are left.
+fn broken_status(denied: &[Text], is_broken: bool, left: &[Change]) -> u8
+    ensures { result ≡ broken_status denied.now is_broken left.now }
+{
+    if is_broken && denies_broken(denied) {
+        1
+    } else {
+        diff_status(denied, left)
     }
-    Ok(diff_status(denied, left.as_slice()))
 }
 
 // The queries that are broken, unless they are left out.

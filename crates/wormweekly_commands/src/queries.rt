@@ -7,7 +7,7 @@ ghost use Rattle.wormweekly_commands.specs.Queries.{IsQueriesStatus, IsReadersFa
 use crate::concerns::denies;
 use crate::delivering::{flush, print};
 use crate::fault::{ConsoleFault, of_sheet};
-use crate::judged::{Found, Told, judge_files};
+use crate::judged::{Found, Pages, Told, judge_files};
 use crate::message::{TITLES, put_position};
 use crate::noting::{MOST_NOTES, print_more};
 use crate::paging::{dialect_of, reader_in};
@@ -69,19 +69,27 @@ fn found_of(alloc: Global, request: &Request, texts: &Texts) -> Result<Found, Co
     let streams = resolve_streams(alloc, &declared.catalogue, &declared.config)?;
     let readers = readers_of(alloc, request, &declared, streams.as_slice())?;
     let served = pages_of(alloc, request, &declared, streams.as_slice(), &readers)?;
-    Ok(judge_files(
-        alloc,
-        request,
-        pair_of(&request.files, texts, &declared),
-        streams.as_slice(),
-        served.as_slice(),
-        texts.queries.as_slice(),
-        &[],
-    )?)
+    let pages = Pages {
+        pair: pair_of(&request.files, texts, &declared),
+        streams: streams.as_slice(),
+        served: served.as_slice(),
+    };
+    Ok(judge_files(alloc, request, texts, pages, &[])?)
 }
 
-/// The streams of the pages of readers, in the dialect that is asked for.
-pub(crate) fn pages_of<'d>(
+/// The streams of the pages of all readers that a page can be made of.
+pub(crate) fn all_pages<'d>(
+    alloc: Global,
+    request: &Request,
+    declared: &'d Declared,
+    streams: &'d [Stream],
+) -> Result<Vec<Served<'d>>, AllocError> {
+    let readers = paged_readers(alloc, declared, streams)?;
+    pages_of(alloc, request, declared, streams, &readers)
+}
+
+// The streams of the pages of readers, in the dialect that is asked for.
+fn pages_of<'d>(
     alloc: Global,
     request: &Request,
     declared: &'d Declared,
@@ -120,8 +128,8 @@ fn readers_of(
     Ok(named)
 }
 
-/// The readers that a page can be made of: a server would hold each sample.
-pub(crate) fn paged_readers(
+// The readers that a page can be made of: a server would hold each sample.
+fn paged_readers(
     alloc: Global,
     declared: &Declared,
     streams: &[Stream],

@@ -6,12 +6,12 @@ use crate::broken::{Broken, broken_queries};
 use crate::comparing::{Comparison, compared};
 use crate::drawing::picture_of;
 use crate::fault::ConsoleFault;
-use crate::judged::{Told, judge_files};
+use crate::judged::{Pages, Told, judge_files};
 use crate::listing::{Listing, listing_of};
 use crate::notes::{Notes, notes_of};
 use crate::page_readers::check_readers;
 use crate::parts::Texts;
-use crate::queries::{paged_readers, pages_of};
+use crate::queries::all_pages;
 use crate::rooms::{Rooms, rooms_of};
 use crate::telling::pair_of;
 use metric_command_lines::Request;
@@ -95,18 +95,13 @@ fn told_of(
     notes: &Notes,
 ) -> Result<Vec<Told>, AllocError> {
     let (declared, streams) = (&notes.declared, notes.streams.as_slice());
-    let readers = paged_readers(alloc, declared, streams)?;
-    let served = pages_of(alloc, request, declared, streams, &readers)?;
-    let found = judge_files(
-        alloc,
-        request,
-        pair_of(&request.files, texts, declared),
+    let served = all_pages(alloc, request, declared, streams)?;
+    let pages = Pages {
+        pair: pair_of(&request.files, texts, declared),
         streams,
-        served.as_slice(),
-        texts.queries.as_slice(),
-        &[],
-    )?;
-    Ok(found.told)
+        served: served.as_slice(),
+    };
+    Ok(judge_files(alloc, request, texts, pages, &[])?.told)
 }
 
 // The queries that the change breaks, where there are old files.

@@ -1,7 +1,10 @@
 //! The reading of a command line.
-ghost use Rattle.std.specs.Prelude.{◌≡◌, [], IfErr, IfOk, IsOk, IsSomeAnd, Ok, OnOk, Some, codes, is_some, map, not, true};
+ghost use Rattle.std.specs.Prelude.{◌≡◌, ◌||◌, [], IfErr, IfOk, IsOk, IsSomeAnd, Ok, OnOk, Some, codes, is_some, map, not, true};
 ghost use Rattle.std.specs.List.{list_any};
+ghost use Rattle.std.specs.Str.{bytes_eq};
 ghost use Rattle.clap.specs.Words.{fault_of, first_of, found_of, rows_of, subcommand_of, subcommand_rows_of, takes};
+ghost use Rattle.metric_diff.specs.Kinds.{is_change};
+ghost use Rattle.metric_lint.specs.Kinds.{is_kind};
 ghost use Rattle.metric_command_lines.specs.Apps.{program_app};
 ghost use Rattle.metric_command_lines.specs.Attributes.{resource_in};
 ghost use Rattle.metric_command_lines.specs.RequestFaults.{IsAllowed, IsMisuse, IsNoRequest, IsNotAsked, IsOwn};
@@ -386,10 +389,22 @@ fn is_concern(task: Task, word: &str) -> bool
     ensures { result ≡ is_concern task word.now }
 {
     match task {
-        Task::Diff => is_change(word) || word == "broken-query",
+        Task::Diff => is_of_changes(word),
         Task::Queries => is_query_kind(word),
-        _ => word == "exposure" || is_kind(word),
+        _ => is_of_remarks(word),
     }
+}
+
+fn is_of_changes(word: &str) -> bool
+    ensures { result ≡ (is_change word.now || bytes_eq word.now (codes "broken-query")) }
+{
+    is_change(word) || word == "broken-query"
+}
+
+fn is_of_remarks(word: &str) -> bool
+    ensures { result ≡ (bytes_eq word.now (codes "exposure") || is_kind word.now) }
+{
+    word == "exposure" || is_kind(word)
 }
 
 // Which remarks or changes count.

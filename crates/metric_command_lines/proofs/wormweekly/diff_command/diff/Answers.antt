@@ -3,8 +3,5 @@ use Rattle.metric_command_lines.proofs.wormweekly.diff_command.diff.Goals as goa
 
 pub returns-clause-app : goal.returns-clause-app
 returns-clause-app c =
-    let first = c.with_argument-command.ensures.app _ _ c.compared-command.ensures.app c.text-certificate.ensures.rule c.text-certificate.ensures.own in
-    let second = c.with_argument-command-2.ensures.app _ _ first c.text.ensures.rule c.text.ensures.own in
-    let third = c.with_argument-command-3.ensures.app _ _ second c.texts.ensures.rule c.texts.ensures.own in
-    let fourth = c.with_argument-command-4.ensures.app _ _ third c.texts-2.ensures.rule c.texts-2.ensures.own in
-    c.with_argument.ensures.app _ _ fourth c.flag.ensures.rule c.flag.ensures.own
+    let first = c.with_argument.ensures.app _ _ c.denied-command.ensures.app c.flag.ensures.rule c.flag.ensures.own in
+    c.with_queries.ensures.app _ first
