@@ -38,6 +38,7 @@ static const char CATALOGUE[] =
     "name = 'queue'\n"
     "kind = 'gauge'\n"
     "range = [0, 9]\n"
+    "key = [{ name = 'shift', values = ['early', 'late'], optional = true }]\n"
     "[[recorder]]\n"
     "name = 'day'\n"
     "budget = [{ instrument = 0, amount = 5 }, { instrument = 1, amount = 3 }, { instrument = 2, amount = 3 }]\n"
@@ -104,6 +105,24 @@ static const wormweekly_attribute SERVICE[] = { { 12, WORMWEEKLY_TEXT, 4, 0 } };
 static const wormweekly_attribute SERVICE_TWICE[] = { { 12, WORMWEEKLY_TEXT, 4, 0 }, { 12, WORMWEEKLY_TEXT, 4, 0 } };
 static const wormweekly_attribute ONE_LABEL[] = { { 3, WORMWEEKLY_TEXT, 1, 0 }, { 3, WORMWEEKLY_TEXT, 1, 0 } };
 static const wormweekly_attribute NO_KEY[] = { { 1, WORMWEEKLY_YES, 0, 0 }, { 0, WORMWEEKLY_YES, 0, 0 } };
+/* Instruments as a host was made for them: meter, name and unit, then the values of the keys. */
+#define HEAD(meter, name, unit) { 0, WORMWEEKLY_TEXT, meter, 0 }, { 0, WORMWEEKLY_TEXT, name, 0 }, { 0, WORMWEEKLY_TEXT, unit, 0 }
+static const wormweekly_attribute BARE[] = { HEAD(4, 6, 3) };
+static const wormweekly_attribute MEANT[] = { HEAD(4, 6, 3), { 7, WORMWEEKLY_TEXT, 2, 0 }, { 7, WORMWEEKLY_TEXT, 2, 0 },
+                                              { 4, WORMWEEKLY_YES, 0, 0 }, { 4, WORMWEEKLY_WHOLE, 0, 7 } };
+static const wormweekly_attribute MEANT_FRONT[] = { HEAD(4, 6, 3), { 7, WORMWEEKLY_TEXT, 2, 0 }, { 4, WORMWEEKLY_YES, 0, 0 } };
+static const wormweekly_attribute MEANT_MORE[] = { HEAD(4, 6, 3), { 7, WORMWEEKLY_TEXT, 2, 0 }, { 4, WORMWEEKLY_YES, 0, 0 },
+                                                   { 6, WORMWEEKLY_NO, 0, 0 } };
+static const wormweekly_attribute MEANT_3[] = { HEAD(4, 6, 3), { 7, WORMWEEKLY_TEXT, 2, 0 }, { 7, WORMWEEKLY_TEXT, 2, 0 },
+                                                { 7, WORMWEEKLY_TEXT, 2, 0 }, { 4, WORMWEEKLY_YES, 0, 0 } };
+static const wormweekly_attribute MEANT_8[] = { HEAD(4, 6, 3), { 7, WORMWEEKLY_TEXT, 2, 0 }, { 4, WORMWEEKLY_WHOLE, 0, 7 } };
+static const wormweekly_attribute SHORT_VALUE[] = { HEAD(4, 6, 3), { 7, WORMWEEKLY_TEXT, 1, 0 }, { 4, WORMWEEKLY_YES, 0, 0 } };
+static const wormweekly_attribute PAID_MEANT[] = { HEAD(4, 6, 3), { 4, WORMWEEKLY_YES, 0, 0 }, { 7, WORMWEEKLY_TEXT, 2, 0 } };
+static const wormweekly_attribute QUEUE_MEANT[] = { HEAD(4, 5, 0) };
+static const wormweekly_attribute SHIFT_MEANT[] = { HEAD(4, 5, 0), { 5, WORMWEEKLY_TEXT, 5, 0 } };
+static const wormweekly_attribute TWO_TEXTS[] = { { 0, WORMWEEKLY_TEXT, 4, 0 }, { 0, WORMWEEKLY_TEXT, 6, 0 } };
+static const wormweekly_attribute NO_UNIT[] = { { 0, WORMWEEKLY_TEXT, 4, 0 }, { 0, WORMWEEKLY_TEXT, 6, 0 }, { 0, WORMWEEKLY_YES, 0, 0 } };
+static const wormweekly_attribute KEYED[] = { { 4, WORMWEEKLY_TEXT, 6, 0 }, { 0, WORMWEEKLY_TEXT, 3, 0 }, { 0, WORMWEEKLY_TEXT, 0, 0 } };
 /* More than a resource may have. */
 static const wormweekly_attribute MANY[65] = { { 0, WORMWEEKLY_YES, 0, 0 } };
 /* More than a call reads without taking memory. */
@@ -311,6 +330,12 @@ static struct told record_forged(const struct row *row) {
     return answered(wormweekly_record_prepared(&instruments[row->instrument], &recorders[row->recorder], &forged));
 }
 
+/* A set key that the host writes. */
+static struct told record_written(const struct row *row) {
+    const wormweekly_prepared own = { .set = { row->entry, (uint16_t)row->amount }, .value = row->value };
+    return answered(wormweekly_record_prepared(&instruments[row->instrument], &recorders[row->recorder], &own));
+}
+
 /* What was prepared, twice. Writes how many were made. */
 static struct told record_list(const struct row *row) {
     wormweekly_prepared list[2] = { prepared, prepared };
@@ -409,6 +434,17 @@ static struct told explain(const struct row *row) {
         wormweekly_explain(&recorders[row->recorder], row->number, bytes(row->texts), strlen(row->texts), row->given,
                            row->given_length, row->value, clear_buffer(), room_for(row, ROOM), &length);
     return told_text(answer, length);
+}
+
+/* The keys that may be left out are bits of the amount. Writes the length of the fault, and as much of it as has room. */
+static struct told expect(const struct row *row) {
+    size_t length = 9, room = room_for(row, ROOM);
+    struct told told = answered(wormweekly_expect(&recorders[row->recorder], row->number, row->kind, bytes(row->texts),
+                                                  strlen(row->texts), row->given, row->given_length, (uint32_t)row->amount,
+                                                  clear_buffer(), room, &length));
+    told.numbers[0] = (int64_t)length;
+    told.text = written(WORMWEEKLY_DONE, told.answer != WORMWEEKLY_FAULT ? 0 : length < room ? length : room);
+    return told;
 }
 
 static struct told warnings(const struct row *row) {
@@ -829,7 +865,11 @@ static const struct row ORDERS_ROWS[] = {
     { CALL(prepare), .texts = "country\xff\xffpaid", GIVEN(PAID), .answer = WORMWEEKLY_NO_TEXT, .numbers = { 2, 1 } },
     { CALL(prepare), .texts = "paidcountryde", GIVEN(PAID_FIRST), .numbers = { 1, 1 } },
     { CALL(prepare), .texts = "countryfrpaid\xff", GIVEN(PAID), .numbers = { 2, 1 } },
-    { CALL(record_prepared), .value = -50 },
+    { CALL(record_written), .entry = 2, .amount = 1, .value = -50 },
+    { CALL(record_written), .entry = 2, .amount = 2, .value = 101, .answer = WORMWEEKLY_VALUE_RANGE },
+    { CALL(record_written), .entry = 1, .amount = 2, .answer = WORMWEEKLY_COMBINATION },
+    { CALL(record_written), .entry = 1, .answer = WORMWEEKLY_UNKNOWN_VALUE },
+    { CALL(record_written), .entry = 3, .amount = 1, .answer = WORMWEEKLY_UNKNOWN_VALUE },
     { CALL(record_prepared), .value = -101, .answer = WORMWEEKLY_VALUE_RANGE },
     { CALL(record_forged), .key = 0, .entry = UINT16_MAX, .answer = WORMWEEKLY_UNKNOWN_VALUE },
     { CALL(record_list), .value = -101, .answer = WORMWEEKLY_VALUE_RANGE },
@@ -993,6 +1033,42 @@ static const struct row TARGET_ROWS[] = {
     { CALL(prometheus_target), .texts = "a.b1a_c2", GIVEN(ONE_LABEL), .text = TWO_LABELS },
 };
 
+#define MEANS(head) CALL(expect), .kind = 1, .texts = "shoporders" head
+#define OTHER(said) .answer = WORMWEEKLY_FAULT, .numbers = { sizeof(said) - 1 }, .text = (said)
+
+/* Whether instruments mean what a host was made for. */
+static const struct row MEANING_ROWS[] = {
+    { MEANS("EURcountrydecountryfrpaidpaid"), GIVEN(MEANT) },
+    { MEANS("EURcountrydepaid"), GIVEN(MEANT_FRONT) },
+    { MEANS("EURcountrydecountryfrpaidpaid"), GIVEN(MEANT), .amount = 1 << 2 },
+    { CALL(expect), .number = QUEUE, .kind = 3, .texts = "shopqueue", GIVEN(QUEUE_MEANT) },
+    { CALL(expect), .number = QUEUE, .kind = 3, .texts = "shopqueueshiftearly", GIVEN(SHIFT_MEANT), .amount = 1 },
+    { CALL(expect), .number = QUEUE, .kind = 3, .texts = "shopqueueshiftearly", GIVEN(SHIFT_MEANT),
+      OTHER("shop/queue: key \"shift\" may be left out") },
+    { MEANS("EURcountryfrcountrydepaidpaid"), GIVEN(MEANT), OTHER("shop/orders: key \"country\" has no value \"fr\" at place 1") },
+    { MEANS("EURcountrydecountryukpaidpaid"), GIVEN(MEANT), OTHER("shop/orders: key \"country\" has no value \"uk\" at place 2") },
+    { MEANS("EURcountrydecountryukpaidpaid"), GIVEN(MEANT), .is_short = 1, .answer = WORMWEEKLY_FAULT, .numbers = { 55 },
+      .text = "s" },
+    { MEANS("EURcountrydecountryfrcountryukpaid"), GIVEN(MEANT_3), OTHER("shop/orders: key \"country\" has no value \"uk\" at place 3") },
+    { MEANS("EURcountrydpaid"), GIVEN(SHORT_VALUE), OTHER("shop/orders: key \"country\" has no value \"d\" at place 1") },
+    { MEANS("EURcountrydepaid"), GIVEN(MEANT_8), OTHER("shop/orders: key \"paid\" has no value 7 at place 1") },
+    { MEANS("EURcountrydepaid"), GIVEN(MEANT_FRONT), .amount = 1, OTHER("shop/orders: key \"country\" may not be left out") },
+    { MEANS("EURpaidcountryde"), GIVEN(PAID_MEANT), OTHER("shop/orders: key \"country\" stands in place of \"paid\"") },
+    { MEANS("EURcountrydepaidcoupon"), GIVEN(MEANT_MORE), OTHER("shop/orders: it has no key \"coupon\"") },
+    { MEANS("EUR"), GIVEN(BARE), OTHER("shop/orders: key \"country\" is not asked for, and may not be left out") },
+    { MEANS("USDcountrydepaid"), GIVEN(MEANT_FRONT), OTHER("shop/orders: its unit is \"EUR\"") },
+    { CALL(expect), .texts = "shopordersEURcountrydepaid", GIVEN(MEANT_FRONT), OTHER("shop/orders: it is an up-down counter") },
+    { CALL(expect), .kind = 1, .texts = "shoporderzEURcountrydepaid", GIVEN(MEANT_FRONT), OTHER("shop/orderz: its name is \"orders\"") },
+    { CALL(expect), .kind = 1, .texts = "sh\npordersEURcountrydepaid", GIVEN(MEANT_FRONT), OTHER("sh p/orders: its meter is \"shop\"") },
+    { CALL(expect), .kind = 1, .number = INSTRUMENTS, .texts = "shopordersEUR", GIVEN(BARE), .answer = WORMWEEKLY_UNKNOWN },
+    { CALL(expect), .kind = 4, .texts = "shopordersEUR", GIVEN(BARE), .answer = WORMWEEKLY_NO_TEXT },
+    { CALL(expect), .kind = 1, .texts = "shoporders", GIVEN(BARE), .answer = WORMWEEKLY_NO_TEXT },
+    { CALL(expect), .kind = 1, .texts = "shop\xffrdersEUR", GIVEN(BARE), .answer = WORMWEEKLY_NO_TEXT },
+    { CALL(expect), .kind = 1, .texts = "shoporders", GIVEN(TWO_TEXTS), .answer = WORMWEEKLY_NO_TEXT },
+    { CALL(expect), .kind = 1, .texts = "shoporders", GIVEN(NO_UNIT), .answer = WORMWEEKLY_NO_TEXT },
+    { CALL(expect), .kind = 1, .texts = "shopordersEUR", GIVEN(KEYED), .answer = WORMWEEKLY_NO_TEXT },
+};
+
 /* What handles hold that were returned to their places. */
 static const struct row RETURNED_ROWS[] = {
     { CALL(settle), .instrument = QUEUE, ALL_RECORDERS, .numbers = { 3, 0, 0, 26 } },
@@ -1009,6 +1085,7 @@ static const struct row FREED_ROWS[] = {
     { CALL(reader_name), .reader = CHANGES },
     { CALL(ask), .recorder = NIGHT },
     { CALL(explain), .recorder = NIGHT, .texts = "countrydepaid", GIVEN(PAID) },
+    { CALL(expect), .recorder = NIGHT, .kind = 1, .texts = "shopordersEUR", GIVEN(BARE) },
     { CALL(range), .recorder = NIGHT },
     { CALL(record_pairs), .recorder = NIGHT, PAIRED(PAIRS) },
     { CALL(prepare_pairs), .recorder = NIGHT, PAIRED(PAIRS) },
@@ -1093,7 +1170,7 @@ static const struct row PAIR_ROWS[] = {
 static int passed;
 
 /* Ends the program at a call that is not answered as is wanted. */
-static void expect(int is_wanted, const struct row *row, const struct told *told) {
+static void want(int is_wanted, const struct row *row, const struct told *told) {
     if (is_wanted) {
         passed++;
         return;
@@ -1114,7 +1191,7 @@ static void check(const struct row *rows, size_t length) {
     for (const struct row *row = rows; row < rows + length; row++) {
         struct told told = row->call(row);
         int is_same = told.answer == row->answer && memcmp(told.numbers, row->numbers, sizeof told.numbers) == 0;
-        expect(is_same && is_same_text(told.text, row->text), row, &told);
+        want(is_same && is_same_text(told.text, row->text), row, &told);
     }
 }
 
@@ -1122,7 +1199,7 @@ static void check(const struct row *rows, size_t length) {
 static void check_freed(const struct row *rows, size_t length) {
     for (const struct row *row = rows; row < rows + length; row++) {
         struct told told = row->call(row);
-        expect(told.answer == WORMWEEKLY_NOT_OPEN, row, &told);
+        want(told.answer == WORMWEEKLY_NOT_OPEN, row, &told);
     }
 }
 
@@ -1172,6 +1249,7 @@ int main(void) {
     check(ROWS(ARTICLES_ROWS));
     check(ROWS(QUEUE_ROWS));
     check(ROWS(TARGET_ROWS));
+    check(ROWS(MEANING_ROWS));
     /* By three and by four places, a handle of each kind stands where one of each other kind is asked for, none where
        its own. */
     for (size_t places = 3; places <= 4; places++) {
@@ -1179,6 +1257,7 @@ int main(void) {
         check_freed(ROWS(ORDERS_ROWS));
         check_freed(ROWS(ARTICLES_ROWS));
         check_freed(ROWS(QUEUE_ROWS));
+        check_freed(ROWS(MEANING_ROWS));
         turn(HANDLES - places);
         check(ROWS(RETURNED_ROWS));
     }
@@ -1190,6 +1269,7 @@ int main(void) {
     check_freed(ROWS(ORDERS_ROWS));
     check_freed(ROWS(ARTICLES_ROWS));
     check_freed(ROWS(QUEUE_ROWS));
+    check_freed(ROWS(MEANING_ROWS));
     check(ROWS(TWIN_ROWS));
     check(ROWS(PAIR_ROWS));
     /* Each is freed whole, whichever call frees it. */

@@ -321,6 +321,21 @@ uint32_t wormweekly_explain(wormweekly_recorder *recorder, uint32_t instrument, 
                             const wormweekly_attribute *attributes, size_t attributes_length, int64_t value, uint8_t *out,
                             size_t room, size_t *text_length);
 
+/* Whether the instrument of a number means what a host was made for. `texts` and `declared` are first the names of its
+ * meter and its own, and its unit (three texts with keys of length 0), then for each key in order its values in order,
+ * each with the key's name; bit i of `optional` says that key i may be left out. WORMWEEKLY_DONE exactly where these are
+ * its meter, name, kind (0 counter, 1 up-down counter, 2 histogram, 3 gauge) and unit, these are its first keys, each
+ * optional exactly where that is said, its values begin with these, and each further key may be left out. Else
+ * WORMWEEKLY_FAULT, with one line in `fault` as far as there is room, with its whole length, as
+ *
+ *     shop/orders: key "country" has no value "uk" at place 2
+ *
+ * whose words may change with each version. WORMWEEKLY_UNKNOWN where there is no such number; WORMWEEKLY_NO_TEXT also
+ * where the three texts are not there, or there is no such kind. Needs no mutex. */
+uint32_t wormweekly_expect(wormweekly_recorder *recorder, uint32_t instrument, uint32_t kind, const uint8_t *texts,
+                           size_t texts_length, const wormweekly_attribute *declared, size_t declared_length,
+                           uint32_t optional, uint8_t *fault, size_t fault_room, size_t *fault_length);
+
 /* Makes the recording of a prepared set key (under the instrument's mutex). */
 uint32_t wormweekly_record_prepared(wormweekly_instrument *instrument, wormweekly_recorder *recorder,
                                     const wormweekly_prepared *prepared);

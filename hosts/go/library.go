@@ -243,8 +243,9 @@ func (recorder *Recorder) give(attributes []Attr) given {
 	return made
 }
 
-func giveMany(attributes []Attr) given {
-	attributes = most(attributes)
+func giveMany(attributes []Attr) given { return givenAll(most(attributes)) }
+
+func givenAll(attributes []Attr) given {
 	made := given{length: lengthOf(attributes), count: len(attributes), isOwned: true}
 	made.texts = (*C.uint8_t)(C.malloc(C.size_t(made.length) + 1))
 	made.attributes = (*C.wormweekly_attribute)(C.calloc(C.size_t(len(attributes))+1, C.sizeof_wormweekly_attribute))
@@ -524,6 +525,24 @@ func expose(own *handles, reader int) (uint32, string) {
 	out := (*C.uint8_t)(unsafe.Pointer(&fault[0]))
 	answer := C.wormweekly_expose(own.reader(reader), out, C.size_t(len(fault)), &length)
 	return uint32(answer), string(fault[:min(int(length), len(fault))])
+}
+
+// Whether an instrument means what is declared; a fault is told as a text. Any recorder tells.
+func expect(on *Instrument, kind Kind, declared []Attr, optional uint32) (uint32, string) {
+	made := givenAll(declared)
+	defer made.free()
+	fault := make([]byte, 4096)
+	for {
+		var length C.size_t
+		recorder := on.run.take()
+		by := recorder.place(on, true)
+		answer := C.expect_by(by.at, by.taken, C.uint32_t(kind), made.texts, C.size_t(made.length), made.attributes,
+			C.size_t(made.count), C.uint32_t(optional), (*C.uint8_t)(unsafe.Pointer(&fault[0])), C.size_t(len(fault)), &length)
+		if int(length) <= len(fault) {
+			return uint32(answer), string(fault[:length])
+		}
+		fault = make([]byte, length)
+	}
 }
 
 // Reads the batch that a reader keeps.

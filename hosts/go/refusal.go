@@ -58,6 +58,7 @@ var (
 var (
 	ErrFault           = &Refusal{Name: "Fault", sentence: "the catalogue or the config is at fault"}
 	ErrNotExposed      = &Refusal{Name: "NotExposed", sentence: "the streams of the reader can not stand in a page"}
+	ErrMeaning         = &Refusal{Name: "Meaning", sentence: "an instrument is not what the program was made for"}
 	ErrUnknownName     = &Refusal{Name: "UnknownName", sentence: "there is not one of this name"}
 	ErrRecorderMissing = &Refusal{Name: "RecorderMissing", sentence: "some recorder is missing"}
 	ErrAuditMismatch   = &Refusal{Name: "AuditMismatch", sentence: "an instrument is not what its recorders were told"}

@@ -330,3 +330,12 @@ uint32_t explain_by(uint8_t *at, uint32_t *taken, GIVEN, int64_t value, uint8_t 
     give_back(taken);
     return answer;
 }
+
+uint32_t expect_by(uint8_t *at, uint32_t *taken, uint32_t kind, GIVEN, uint32_t optional, uint8_t *fault, size_t room,
+                   size_t *written) {
+    shard *own = (shard *)at;
+    uint32_t answer = wormweekly_expect(own->recorder, own->number, kind, texts, length, attributes, count, optional, fault,
+                                        room, written);
+    give_back(taken);
+    return answer;
+}

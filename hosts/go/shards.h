@@ -92,6 +92,8 @@ uint32_t budget_by(PLACE, wormweekly_budget_out *budget);
 /* By a recorder alone. */
 found prepare_by(uint8_t *at, uint32_t *taken, GIVEN);
 uint32_t explain_by(uint8_t *at, uint32_t *taken, GIVEN, int64_t value, uint8_t *out, size_t room, size_t *written);
+uint32_t expect_by(uint8_t *at, uint32_t *taken, uint32_t kind, GIVEN, uint32_t optional, uint8_t *fault, size_t room,
+                   size_t *written);
 
 /* By an instrument alone. */
 uint32_t grant_on(guarded *on, uint64_t *spent, uint32_t recorder, uint64_t amount);

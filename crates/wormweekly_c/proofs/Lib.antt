@@ -12,3 +12,7 @@ pub mod HeldLaws
 pub mod RoomLaws
 pub mod NullLaws
 pub mod LintLaws
+pub mod NamedSets
+pub mod NamedKeys
+pub mod Expected
+pub mod MeaningLaws

@@ -27,3 +27,7 @@ pub mod Closing
 pub mod Granting
 pub mod Headrooms
 pub mod Budgets
+pub mod Ranks
+pub mod Expected
+pub mod Meanings
+pub mod Agreeing

@@ -31,6 +31,7 @@ mod codes;
 mod collections;
 mod empty;
 mod ending;
+mod expecting;
 mod explaining;
 mod exposed;
 mod grants;
@@ -38,6 +39,7 @@ mod handles;
 mod headrooms;
 mod held;
 mod in_order;
+pub mod laws;
 mod linting;
 mod names;
 mod next;
@@ -70,6 +72,7 @@ pub use ending::{
     may_be_sent, wormweekly_close, wormweekly_free_instrument, wormweekly_free_reader,
     wormweekly_free_recorder,
 };
+pub use expecting::wormweekly_expect;
 pub use explaining::wormweekly_explain;
 pub use exposed::wormweekly_expose;
 pub use grants::wormweekly_grant;

@@ -94,7 +94,7 @@ fn instrument_name(catalogue: &Catalogue, number: usize) -> Option<&str>
     Some(instrument.name.get().as_str())
 }
 
-fn meter_name(catalogue: &Catalogue, number: usize) -> Option<&str>
+pub(crate) fn meter_name(catalogue: &Catalogue, number: usize) -> Option<&str>
     ensures { option_map (λ name. name.now) result ≡ meter_name catalogue.now number }
 {
     let instrument = catalogue.instruments().get(number)?;

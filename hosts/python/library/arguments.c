@@ -176,6 +176,20 @@ static int add_attribute(Run *run, Given *given, PyObject *key, PyObject *value)
     return outside == 0;
 }
 
+static int has_places(Given *given, size_t count) {
+    wormweekly_attribute *all;
+    if (count <= FEW_ATTRIBUTES) {
+        return 1;
+    }
+    all = malloc(count * sizeof *all);
+    if (all == NULL) {
+        PyErr_NoMemory();
+        return 0;
+    }
+    given->all = all;
+    return 1;
+}
+
 /* The keys are compared with one another, so no more than 65 are read. Of so many a key is unknown, and a resource has
    fewer: what follows could not mend that. */
 static int read_dict(Run *run, PyObject *dict, Given *given) {
@@ -183,13 +197,8 @@ static int read_dict(Run *run, PyObject *dict, Given *given) {
     Py_ssize_t at = 0;
     size_t count = (size_t)PyDict_Size(dict);
     count = count < MOST_ATTRIBUTES ? count : MOST_ATTRIBUTES;
-    if (count > FEW_ATTRIBUTES) {
-        wormweekly_attribute *all = malloc(count * sizeof *all);
-        if (all == NULL) {
-            PyErr_NoMemory();
-            return 0;
-        }
-        given->all = all;
+    if (!has_places(given, count)) {
+        return 0;
     }
     while (given->own.count < count && PyDict_Next(dict, &at, &key, &value)) {
         if (!add_attribute(run, given, key, value)) {
@@ -220,4 +229,31 @@ int read_attributes(Run *run, PyObject *mapping, Given *given) {
     is_read = dict != NULL && PyDict_Update(dict, mapping) == 0 && is_whole(run) && read_dict(run, dict, given);
     Py_XDECREF(dict);
     return is_read;
+}
+
+/* Nothing of Python runs between the first pair and the last. */
+int read_pairs(Run *run, PyObject *pairs, Given *given) {
+    size_t count;
+    begin_given(given);
+    if (!PyList_Check(pairs)) {
+        refuse_type(run, "a list of pairs", pairs);
+        return 0;
+    }
+    count = (size_t)PyList_Size(pairs);
+    if (!has_places(given, count)) {
+        return 0;
+    }
+    for (size_t at = 0; at < count; at++) {
+        PyObject *pair = PyList_GetItem(pairs, (Py_ssize_t)at);
+        if (!PyTuple_Check(pair) || PyTuple_Size(pair) != 2) {
+            refuse_type(run, "a pair of a key and a value", pair);
+            return 0;
+        }
+        if (!add_attribute(run, given, PyTuple_GetItem(pair, 0), PyTuple_GetItem(pair, 1))) {
+            return 0;
+        }
+    }
+    given->own.bytes = given->bytes;
+    given->own.all = given->all;
+    return 1;
 }

@@ -14,7 +14,8 @@ enum {
     FORKED = 1002,
     IN_USE = HANDLES_IN_USE,
     WRONG_CLOCK = 1004,
-    NOT_EXPOSED = 1005
+    NOT_EXPOSED = 1005,
+    OTHER_MEANING = 1006
 };
 
 typedef struct {
@@ -103,6 +104,9 @@ typedef struct {
 
 /* Where there is no mapping, there are none. */
 int read_attributes(Run *run, PyObject *mapping, Given *given);
+
+/* Any number of them, in a list of pairs of a key and a value. */
+int read_pairs(Run *run, PyObject *pairs, Given *given);
 void free_given(Given *given);
 
 /* A text that the library has room to write into, cut to the room. */

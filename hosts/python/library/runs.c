@@ -233,6 +233,34 @@ static PyObject *reader(Run *self, PyObject *args) {
     return new_seat(self, args, self->state->reader, self->handles.lists.counts.readers);
 }
 
+static PyObject *compared(Run *self, uint32_t number, uint32_t kind, const Attributes *own, uint32_t optional) {
+    uint8_t fault[4096];
+    size_t length = 0;
+    uint32_t answer = wormweekly_expect(handles_lend_recorder(&self->handles, 0), number, kind, own->bytes, own->length,
+                                        own->all, own->count, optional, fault, sizeof fault, &length);
+    handles_take_recorder(&self->handles, 0);
+    return answer == WORMWEEKLY_FAULT ? refuse_told(self, OTHER_MEANING, fault, length, sizeof fault)
+                                      : done(self, answer);
+}
+
+/* expect(number, kind, pairs of a key and a value, bits of keys that may be left out) */
+static PyObject *expect(Run *self, PyObject *args) {
+    unsigned int number, kind, optional;
+    PyObject *pairs, *made = NULL;
+    Given given;
+    if (!PyArg_ParseTuple(args, "IIOI", &number, &kind, &pairs, &optional) || !is_whole(self)) {
+        return NULL;
+    }
+    if (self->handles.lists.counts.recorders == 0) {
+        return refuse(self, WORMWEEKLY_UNKNOWN_RECORDER);
+    }
+    if (read_pairs(self, pairs, &given)) {
+        made = compared(self, number, kind, &given.own, optional);
+    }
+    free_given(&given);
+    return made;
+}
+
 static PyObject *total_of(const wormweekly_total *total) {
     return Py_BuildValue("(KNKK)", (unsigned long long)total->count, PyBool_FromLong(total->negative == 1),
                          (unsigned long long)total->high, (unsigned long long)total->low);
@@ -326,6 +354,7 @@ static PyMethodDef methods[] = {
     { "instrument", (PyCFunction)instrument, METH_VARARGS, NULL },
     { "recorder", (PyCFunction)recorder, METH_VARARGS, NULL },
     { "reader", (PyCFunction)reader, METH_VARARGS, NULL },
+    { "expect", (PyCFunction)expect, METH_VARARGS, NULL },
     { "settle", (PyCFunction)settle, METH_VARARGS, NULL },
     { "roll_over", (PyCFunction)roll_over, METH_O, NULL },
     { NULL, NULL, 0, NULL },

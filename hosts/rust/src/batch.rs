@@ -53,6 +53,18 @@ pub enum Kind {
     Gauge,
 }
 
+impl Kind {
+    // Its number for the library.
+    pub(crate) fn number(self) -> u32 {
+        match self {
+            Kind::Counter => 0,
+            Kind::UpDownCounter => 1,
+            Kind::Histogram => 2,
+            Kind::Gauge => 3,
+        }
+    }
+}
+
 /// What is reported of one series.
 #[derive(Clone, Debug, PartialEq)]
 pub struct Point {

@@ -320,6 +320,50 @@ impl fmt::Display for ExposureFault {
 
 impl std::error::Error for ExposureFault {}
 
+/// Why an instrument is not what a program was made for.
+#[derive(Clone, Debug, PartialEq, Eq)]
+#[non_exhaustive]
+pub enum MeaningFault {
+    /// There is no instrument of this meter and name, or more than one.
+    Unknown(String),
+    /// It means something else: the first difference, as `shop/orders: key "country" has no value "uk" at place 2`.
+    /// The words may change with each version.
+    Fault(String),
+    /// The recorder is of another run.
+    Stranger,
+    /// Out of memory.
+    Memory,
+    /// The library answered a number that this crate does not know.
+    Other(u32),
+}
+
+impl MeaningFault {
+    pub(crate) fn told(code: u32, words: &[u8]) -> Result<(), MeaningFault> {
+        match code {
+            0 => Ok(()),
+            11 => Err(MeaningFault::Memory),
+            103 => Err(MeaningFault::Fault(
+                String::from_utf8_lossy(words).into_owned(),
+            )),
+            code => Err(MeaningFault::Other(code)),
+        }
+    }
+}
+
+impl fmt::Display for MeaningFault {
+    fn fmt(&self, f: &mut fmt::Formatter<'_>) -> fmt::Result {
+        match self {
+            MeaningFault::Unknown(name) => write!(f, "there is not one instrument {name:?}"),
+            MeaningFault::Fault(text) => write!(f, "{text}"),
+            MeaningFault::Stranger => write!(f, "the recorder is of another run"),
+            MeaningFault::Memory => write!(f, "out of memory"),
+            MeaningFault::Other(code) => write!(f, "the library answered {code}"),
+        }
+    }
+}
+
+impl std::error::Error for MeaningFault {}
+
 /// There is no instrument of this name, or more than one.
 #[derive(Clone, Debug, PartialEq, Eq)]
 pub struct UnknownName(pub String);

@@ -182,6 +182,7 @@
 mod batch;
 mod debug;
 mod dialect;
+mod expected;
 mod fault;
 mod headroom;
 mod key;
@@ -202,9 +203,10 @@ mod value;
 
 pub use batch::{Batch, Kind, OwnedValue, Point, PointValue, Stream};
 pub use dialect::Dialect;
+pub use expected::ExpectedKey;
 pub use fault::{
-    About, ExposureFault, ListRefusal, OpenFault, Refusal, ResourceFault, RollFault, SettleFault,
-    UnknownName,
+    About, ExposureFault, ListRefusal, MeaningFault, OpenFault, Refusal, ResourceFault, RollFault,
+    SettleFault, UnknownName,
 };
 pub use headroom::{Headroom, Limit};
 pub use key::Key;

@@ -136,6 +136,19 @@ unsafe extern "C" {
         room: usize,
         text_length: *mut usize,
     ) -> u32;
+    pub fn wormweekly_expect(
+        recorder: *mut Handle,
+        instrument: u32,
+        kind: u32,
+        texts: *const u8,
+        texts_length: usize,
+        declared: *const Attribute,
+        declared_length: usize,
+        optional: u32,
+        fault: *mut u8,
+        fault_room: usize,
+        fault_length: *mut usize,
+    ) -> u32;
     pub fn wormweekly_open(
         catalogue: *const u8,
         catalogue_length: usize,

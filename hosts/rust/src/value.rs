@@ -145,7 +145,7 @@ impl Room {
         (&self.texts, &self.attributes)
     }
 
-    fn push(&mut self, key: &str, value: Value<'_>) {
+    pub(crate) fn push(&mut self, key: &str, value: Value<'_>) {
         self.texts.extend_from_slice(key.as_bytes());
         if let Value::Text(text) = value {
             self.texts.extend_from_slice(text.as_bytes());

@@ -11,8 +11,8 @@ from enum import IntEnum
 from typing import TypeVar
 
 from wormweekly import _library
-from wormweekly._batches import Batch, Value, batch_of
-from wormweekly._refusals import ClosedRefusal, Teller
+from wormweekly._batches import Batch, Kind, Value, batch_of
+from wormweekly._refusals import ClosedRefusal, MeaningFault, Teller
 
 Attributes = Mapping[str, Value]
 
@@ -102,6 +102,16 @@ class Spare:
     declared: int
     granted: int
     left: int
+
+
+@dataclass(frozen=True, slots=True)
+class ExpectedKey:
+    """A key of an instrument, as a program was made for it: its name, its values in order, at least one, and whether a
+    recording may leave it out."""
+
+    name: str
+    values: tuple[Value, ...]
+    optional: bool = False
 
 
 _Own = TypeVar("_Own")
@@ -310,6 +320,25 @@ class Metrics:
     def reader(self, name: str) -> Reader:
         """The reader of this name, where there is exactly one."""
         return _only(self.readers, "reader", name)
+
+    def expect(
+        self, meter: str, name: str, kind: Kind, unit: str, keys: Iterable[ExpectedKey] = ()
+    ) -> Instrument:
+        """The instrument of this meter and name, where it means what a program was made for, as one that is made from a
+        catalogue asks once: it has this kind and unit; its first keys are these in order, each optional exactly where
+        that is said; the values of each begin with these; and each further key may be left out. Else a `MeaningFault`
+        tells the first difference; an `UnknownName` where there is not one of this meter and name."""
+        found = [one for one in self.instruments if (one.meter, one.name) == (meter, name)]
+        if len(found) != 1:
+            raise UnknownName(f"there is not one instrument {meter}/{name}")
+        own = tuple(keys)
+        if bare := next((key for key in own if not key.values), None):
+            raise MeaningFault("Meaning", f"{meter}/{name}: key {bare.name!r} is asked for without a value")
+        declared = [("", meter), ("", name), ("", unit), *((key.name, value) for key in own for value in key.values)]
+        # Of more than 32 keys those behind are none of any instrument.
+        flags = sum(1 << at for at, key in enumerate(own[:32]) if key.optional)
+        self._run.expect(found[0].number, kind.value, declared, flags)
+        return found[0]
 
     def settle(self) -> tuple[Total, ...]:
         """The total of each instrument, in order, each compared with what its recorders were told."""

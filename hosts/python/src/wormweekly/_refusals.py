@@ -105,6 +105,12 @@ class ExposureFault(Refusal, ValueError):
     names = {1005: ("NotExposed", "the streams of the reader can not stand in a page")}
 
 
+class MeaningFault(Refusal, ValueError):
+    """An instrument is not what the program was made for: the first difference."""
+
+    names = {1006: ("Meaning", "an instrument is not what the program was made for")}
+
+
 class TypeRefusal(Refusal, TypeError):
     """An argument is of another type."""
 
@@ -142,6 +148,7 @@ _FAMILIES = (
     ResourceRefusal,
     OpenFault,
     ExposureFault,
+    MeaningFault,
     TypeRefusal,
     ThreadRefusal,
     ClockRefusal,
