@@ -39,9 +39,9 @@ func expectTransfers(catalogue string) (*Metrics, *Instrument, error) {
 
 func TestWhatAProgramWasMadeForIsFound(t *testing.T) {
 	later := map[string]string{
-		"amount = 5": "amount = 6",
-		"'from', values = ['a', 'b']":                "'from', values = ['a', 'b', 'c']",
-		"values = [1, true], optional = true }]":     "values = [1, true, 2], optional = true }]",
+		"amount = 5":                                  "amount = 6",
+		"'from', values = ['a', 'b']":                 "'from', values = ['a', 'b', 'c']",
+		"values = [1, true], optional = true }]":      "values = [1, true, 2], optional = true }]",
 		"allowed = [[1, 2, 0], [2, 1, 0], [2, 1, 1]]": "spare = 2",
 	}
 	for from, to := range later {

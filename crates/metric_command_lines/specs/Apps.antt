@@ -186,6 +186,17 @@ queries_app =
     (texts_rule (codes "label")))
     (files_rule (codes "queries"))
 
+-- a command over a catalogue alone, with the language of its code and the file that is compared
+abbrev pub bound_app : App
+bound_app = with_rule (new_app (codes "bind")) (file_rule (codes "catalogue") true)
+
+abbrev pub bind_app : App
+bind_app =
+    with_rule
+    (with_rule (with_rule bound_app (old_rule (codes "language") (codes "for")))
+    (old_rule (codes "bound") (codes "check")))
+    output_rule
+
 -- the program, with its version and without a command
 abbrev pub bare_app : App
 bare_app =
@@ -208,8 +219,10 @@ program_app =
     with_subcommand
     (with_subcommand
     (with_subcommand
+    (with_subcommand
     (with_subcommand (with_subcommand (with_subcommand second_app replay_app.top) draw_app.top)
     diff_app.top)
     report_app.top)
     expand_app.top)
-    queries_app.top
+    queries_app.top)
+    bind_app.top

@@ -2,6 +2,7 @@ pub mod Apps
 pub mod Attributes
 pub mod Forms
 pub mod Kit
+pub mod Languages
 pub mod LineFaults
 pub mod Lines
 pub mod Numbers

@@ -11,7 +11,9 @@ use Rattle.metric_lint.specs.Kinds.{is_kind}
 use Rattle.metric_diff.specs.Kinds.{is_change}
 use Rattle.metric_contents.specs.declared.attributes.OwnedAttr.{OwnedAttr}
 use Rattle.metric_command_lines.specs.Attributes.{resource_in}
+use Rattle.metric_command_lines.specs.Languages.{language_of}
 use Rattle.metric_command_lines.specs.Numbers.{number_in}
+use Rattle.metric_command_lines.specs.declared.language.Language.{Language}
 use Rattle.metric_command_lines.specs.declared.wormweekly.fault.Misuse.{Misuse}
 use Rattle.metric_command_lines.specs.declared.wormweekly.fault.Misuse.TheVariants.{Deny, Allow, Outlet, Audit, Resource, Input}
 use Rattle.metric_command_lines.specs.declared.wormweekly.fault.Misuse.TheVariants as misuses
@@ -29,7 +31,7 @@ use Rattle.metric_command_lines.specs.declared.wormweekly.request.Request.{Reque
 use Rattle.metric_command_lines.specs.declared.wormweekly.request.Task.{Task}
 use Rattle.metric_command_lines.specs.declared.wormweekly.request.Task.TheVariants.{Lint, Show, Make, Check}
 use Rattle.metric_command_lines.specs.declared.wormweekly.request.Task.TheVariants.{Headroom, Replay, Draw, Diff}
-use Rattle.metric_command_lines.specs.declared.wormweekly.request.Task.TheVariants.{Expand, Queries, Report}
+use Rattle.metric_command_lines.specs.declared.wormweekly.request.Task.TheVariants.{Expand, Queries, Report, Bind}
 
 -- the command by its name
 abbrev pub task_of : Text → Task
@@ -44,6 +46,7 @@ task_of name =
     else if bytes_eq name (codes "report") then Report
     else if bytes_eq name (codes "expand") then Expand
     else if bytes_eq name (codes "queries") then Queries
+    else if bytes_eq name (codes "bind") then Bind
     else Draw
 
 -- an argument was given this word
@@ -73,6 +76,19 @@ forms_else rows =
 abbrev pub is_over_pages : Task → Bool
 is_over_pages Queries = true
 is_over_pages task = false
+
+-- the language that code is to be made for
+abbrev pub language_in : List Row → Option Language
+language_in rows = option_and_then language_of (first_of (codes "language") rows)
+
+-- the command makes code
+abbrev pub is_bind : Task → Bool
+is_bind Bind = true
+is_bind task = false
+
+-- code is to be made, and no language is named
+abbrev pub languages_else : Task → List Row → Bool
+languages_else task rows = option_map_or (λ language. false) (language_in rows) (is_bind task)
 
 -- a reader is named where no page is printed, nor asked about
 abbrev pub reads_else : Task → List Row → Bool
@@ -163,6 +179,7 @@ files_in rows = record {
   accepted = first_of (codes "accepted") rows;
   script = script_in rows;
   queries = words_in (codes "queries") rows;
+  bound = first_of (codes "bound") rows;
   output = output_of (first_of (codes "output") rows);
 }
 
@@ -171,6 +188,7 @@ options_in rows = record {
   json = has_word (codes "json") (codes "true") rows;
   audit = has_word (codes "audit") (codes "true") rows;
   form = form_in rows;
+  language = language_in rows;
   width = number_in (first_of (codes "width") rows);
   rate = number_in (first_of (codes "rate") rows);
   instances = number_in (first_of (codes "instances") rows);
@@ -190,6 +208,7 @@ resource_asked task rows = do
       || not (is_some (first_of (codes "resource") rows))) Resource
   _ ← require (not (reads_else task rows)) misuses.Reader
   _ ← require (not (reads_twice (files_in rows))) Input
+  _ ← require (not (languages_else task rows)) misuses.Language
   resource_in (words_in (codes "resource") rows)
 
 -- the request of a command by its name, with its arguments

@@ -20,7 +20,7 @@ output_of path = option_and_then (λ p. if is_standard p then None else Some p) 
 abbrev pub inputs_of : Files → List (Option Text)
 inputs_of files =
     files.old_catalogue ∷ files.old_config ∷ Some files.catalogue ∷ Some files.config
-    ∷ files.certificate ∷ files.accepted ∷ files.script ∷ []
+    ∷ files.certificate ∷ files.accepted ∷ files.script ∷ files.bound ∷ []
 
 -- 1 for standard input, else 0
 abbrev pub times_of : Option Text → ℕ

@@ -5,11 +5,13 @@
 #![tactic(auto)]
 
 mod kit;
+mod language;
 mod numbers;
 mod programs;
 mod wormweekly;
 
 pub use kit::{Line, LineFault, command_of, lines_are_taken, others_are_refused};
+pub use language::Language;
 pub use wormweekly::{
     Concerns, Files, Form, Misuse, Options, Request, RequestFault, Task, VERSION, has_equals,
     is_standard, key_and_value, request_of,

@@ -2,6 +2,7 @@
 
 mod arguments;
 mod attributes;
+mod bind_command;
 mod commands;
 mod diff_command;
 mod expand_command;

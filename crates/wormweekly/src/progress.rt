@@ -117,7 +117,8 @@ fn work_of(request: &Result<Request, RequestFault>) -> &'static str {
             Task::Diff => "comparing",
             Task::Draw => "drawing",
             Task::Queries => "judging queries",
-            Task::Lint | Task::Show | Task::Headroom | Task::Report | Task::Expand => "working",
+            Task::Lint | Task::Show | Task::Headroom | Task::Report | Task::Expand | Task::Bind =>
+                "working",
         },
         Err(_) => "working",
     }

@@ -6,3 +6,4 @@ pub mod Sides
 pub mod Reports
 pub mod Overwriting
 pub mod Held
+pub mod PutCode

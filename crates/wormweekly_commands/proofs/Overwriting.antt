@@ -18,6 +18,7 @@ old_is_input same output files roles.Config is = absurd is
 old_is_input same output files roles.Certificate is = absurd is
 old_is_input same output files roles.Accepted is = absurd is
 old_is_input same output files roles.Script is = absurd is
+old_is_input same output files roles.Bound is = absurd is
 old_is_input same output files (roles.Queries number) is = absurd is
 
 pub names_neither : {A : Type 0} (b : Bool) → (A → ⊥) → b ≡ false → (A ⊎ (b ≡ true)) → ⊥

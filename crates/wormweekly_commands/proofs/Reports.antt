@@ -5,7 +5,7 @@ use Rattle.metric_parts.specs.declared.parts.Parts.{Parts}
 use Rattle.metric_command_lines.specs.declared.wormweekly.request.Request.{Request}
 use Rattle.metric_command_lines.specs.declared.wormweekly.request.Task.{Task}
 use Rattle.metric_command_lines.specs.declared.wormweekly.request.Task.TheVariants.{Lint, Show, Make, Check, Headroom}
-use Rattle.metric_command_lines.specs.declared.wormweekly.request.Task.TheVariants.{Replay, Diff, Report, Expand, Draw, Queries}
+use Rattle.metric_command_lines.specs.declared.wormweekly.request.Task.TheVariants.{Replay, Diff, Report, Expand, Draw, Queries, Bind}
 use Rattle.metric_contents.specs.declared.contents.Contents.{Contents}
 use Rattle.metric_views.specs.declared.config.Setup.{Setup}
 use Rattle.metric_kit_commands.specs.Declarations.{IsDeclared, IsDeclaredFault}
@@ -80,6 +80,7 @@ noted Report request parts notes is = absurd is
 noted Expand request parts notes is = absurd is
 noted Draw request parts notes is = absurd is
 noted Queries request parts notes is = absurd is
+noted Bind request parts notes is = absurd is
 
 pub unknown_reader_refuses : (request : Request) (parts : Parts) (answer : Answer) (fault : ConsoleFault)
     → IsAnswer request.task request parts answer → IsUnknownReader request.concerns.outlets answer fault → RefusesFor request parts fault

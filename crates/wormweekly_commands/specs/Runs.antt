@@ -322,9 +322,62 @@ ExpandsFile known files writing status =
     ((status ≡ 0) × IsExpanded known files writing)
     ⊎ (RefusesFull known files writing status ⊎ StopsExpansion writing status)
 
+-- Code is written where the request wants it; or it is what stands in the file that it is compared with, and nothing is
+-- written.
+abbrev pub IsPut : Known → Option (List ℕ) → Files → List ℕ → Writing → Type 0
+IsPut known None files code writing =
+    IsDelivered files.output code writing.made writing.made_after writing.contents writing.contents_after
+IsPut known (Some path) files code writing = IsHeld known.held path code × IsUntouched writing
+
+-- Code is made of the catalogue that the file is.
+pub record IsBound (known : Known) (files : Files) (writing : Writing) : Type 0 where
+  pub source : List ℕ
+  pub contents : Contents
+  pub code : List ℕ
+  pub is_held : IsHeld known.held files.catalogue source
+  pub opened : opened_of source ≡ Ok contents
+  pub put : IsPut known files.bound files code writing
+
+-- The fault is the first of a catalogue, or memory ran out.
+abbrev pub IsSourceFault : List ℕ → ConsoleFault → Type 0
+IsSourceFault source (Kit (kit.Catalogue fault)) = opened_of source ≡ Err fault
+IsSourceFault source (Unread Catalogue unread.Memory) = Unit {0}
+IsSourceFault source _ = ⊥
+
+-- The catalogue that the file is is refused, and nothing is written.
+pub record RefusesSource (known : Known) (files : Files) (writing : Writing) (status : ℕ) : Type 0
+  where
+    pub source : List ℕ
+    pub fault : ConsoleFault
+    pub is_held : IsHeld known.held files.catalogue source
+    pub first : IsSourceFault source fault
+    pub untouched : IsUntouched writing
+    pub is_status : status ≡ status_of fault
+
+-- No code is made of a catalogue that can be read, or other code than a file has, and nothing is written.
+pub record RefusesCode (known : Known) (files : Files) (writing : Writing) (status : ℕ) : Type 0
+  where
+    pub source : List ℕ
+    pub contents : Contents
+    pub is_held : IsHeld known.held files.catalogue source
+    pub opened : opened_of source ≡ Ok contents
+    pub untouched : IsUntouched writing
+    pub is_status : status ≡ 1
+
+-- # what making code does (profile) [BindsFile]
+-- Code of the catalogue is written, or compared; or the catalogue is refused by its first fault, or no code is made of
+-- it, and nothing is written; or a file is not read or not written. The exit status says which.
+abbrev pub BindsFile : Known → Files → Writing → ℕ → Type 0
+BindsFile known files writing status =
+    ((status ≡ 0) × IsBound known files writing)
+    ⊎ (RefusesSource known files writing status
+    ⊎ (RefusesCode known files writing status ⊎ StopsExpansion writing status))
+
 -- # what running a request does (profile)
--- A catalogue is expanded, or another command run, and the end is told by the exit status.
+-- A catalogue is expanded, code made of one, or another command run, and the end is told by the exit status.
 pub record RunsRequest (known : Known) (request : Request) (writing : Writing)
     (sink : SinkRun) (status : ℕ) : Type 0 where
   pub expanded : request.task ≡ Expand → ExpandsFile known request.files writing status
-  pub commanded : request.task ≢ Expand → RunsCommand known request writing sink status
+  pub bound : request.task ≡ tasks.Bind → BindsFile known request.files writing status
+  pub commanded : request.task ≢ Expand → request.task ≢ tasks.Bind
+      → RunsCommand known request writing sink status

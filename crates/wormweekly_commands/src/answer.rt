@@ -42,6 +42,7 @@ pub(crate) fn answer_of(
     requires answer { task ≢ Task.Report }
     requires picture { task ≢ Task.Draw }
     requires queries { task ≢ Task.Queries }
+    requires code { task ≢ Task.Bind }
     requires certificate { task ≡ Task.Check → IsSome parts.now.certificate }
     ensures ok { IfOk result (IsAnswer task request.now parts.now) }
     ensures first { IfErr result (λ fault. IsAnswerFault task fault parts.now) }
@@ -52,8 +53,13 @@ pub(crate) fn answer_of(
         Task::Show => listed(alloc, parts),
         Task::Headroom => roomed(alloc, parts),
         Task::Lint => noted(alloc, request, parts),
-        Task::Replay | Task::Diff | Task::Report | Task::Expand | Task::Draw | Task::Queries =>
-            unreachable!(),
+        Task::Replay
+        | Task::Diff
+        | Task::Report
+        | Task::Expand
+        | Task::Draw
+        | Task::Queries
+        | Task::Bind => unreachable!(),
     }
 }
 

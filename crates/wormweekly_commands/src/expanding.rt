@@ -35,8 +35,12 @@ pub(crate) fn run_expand<F: Folder, W: Sink, E: Sink>(
     }
 }
 
-// The text of the catalogue, unless the file to write to is the same.
-fn source_of<F: Folder>(alloc: Global, folder: &F, files: &Files) -> Result<Texts, ConsoleFault>
+/// The text of the catalogue, unless the file to write to is the same.
+pub(crate) fn source_of<F: Folder>(
+    alloc: Global,
+    folder: &F,
+    files: &Files,
+) -> Result<Texts, ConsoleFault>
     ensures read { IfOk result (λ texts.
         IsHeld (F.held folder.now) files.now.catalogue texts.parts.catalogue) }
     ensures apart { OnOk result

@@ -31,6 +31,8 @@ pub enum Role {
         /// The number of the file among those of queries.
         number: usize,
     },
+    /// The code that is compared with what is made.
+    Bound,
 }
 
 /// Why a replay prints no page.

@@ -8,6 +8,7 @@
 
 mod accepting;
 mod answer;
+mod binding;
 mod broken;
 mod change_cells;
 mod change_sheet;

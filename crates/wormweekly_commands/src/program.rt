@@ -16,6 +16,7 @@ ghost use Rattle.wormweekly_commands.specs.Told.{IsLineEnd};
 
 use crate::accepting::{accepted_of, tell_unused};
 use crate::answer::{Answer, answer_of};
+use crate::binding::run_bind;
 use crate::broken::{Broken, broken_queries, lines_of};
 use crate::change_sheet::ChangeSheet;
 use crate::comparing::{comparison_of, diff_status};
@@ -87,6 +88,8 @@ fn run_asked<F: Folder, W: Sink, X: Sink, E: Sink>(
 {
     if request.task == Task::Expand {
         run_expand(alloc, request, folder, sink, errors)
+    } else if request.task == Task::Bind {
+        run_bind(alloc, request, folder, sink, errors)
     } else {
         run_files(alloc, request, columns, folder, sink, faults, errors)
     }
@@ -102,7 +105,8 @@ fn run_files<F: Folder, W: Sink, X: Sink, E: Sink>(
     faults: &mut X,
     errors: &mut E,
 ) -> u8
-    requires { request.now.task ≢ Task.Expand }
+    requires long { request.now.task ≢ Task.Expand }
+    requires code { request.now.task ≢ Task.Bind }
     ensures { RunsCommand (known_by F.held F.same folder.old) request.now
         (writing F.made W.contents folder.old folder.new sink.old sink.new)
         (sink_run W.contents W.failures sink.old sink.new) result }
@@ -200,7 +204,8 @@ fn run_texts<F: Folder, W: Sink, E: Sink>(
     sink: &mut W,
     errors: &mut E,
 ) -> Result<u8, ConsoleFault>
-    requires { request.now.task ≢ Task.Expand }
+    requires long { request.now.task ≢ Task.Expand }
+    requires code { request.now.task ≢ Task.Bind }
     ensures { RunsTexts request.now texts.now
         (writing F.made W.contents folder.old folder.new sink.old sink.new)
         (sink_run W.contents W.failures sink.old sink.new) result }
@@ -237,6 +242,7 @@ fn run_answer<F: Folder, W: Sink, E: Sink>(
     requires answer { request.now.task ≢ Task.Report }
     requires picture { request.now.task ≢ Task.Draw }
     requires queries { request.now.task ≢ Task.Queries }
+    requires code { request.now.task ≢ Task.Bind }
     ensures ok { IfOk result (Answers request.now texts.now.parts
         (writing F.made W.contents folder.old folder.new sink.old sink.new)) }
     ensures first { IfErr result (RefusesFor request.now texts.now.parts) }

@@ -67,6 +67,7 @@ fn words_of(misuse: Misuse) -> &'static str {
         Misuse::Outlet =>
             "error: '--for' knows 'prometheus' and 'otlp' alone, and behind '=' a reader\n",
         Misuse::Form => "error: '--as' knows no such form; try 'wormweekly replay --help'\n",
+        Misuse::Language => "error: '--for' is to be 'rust', 'go', 'python' or 'c'\n",
         Misuse::Audit => "error: '--audit' audits replies, and with '--as' none are printed\n",
         Misuse::Resource => "error: '--resource' belongs to '--as'\n",
         Misuse::Reader => "error: '--reader' belongs to '--as prometheus' and the other pages\n",
@@ -256,6 +257,10 @@ fn named(files: &Files, role: Role) -> &str {
         Role::Queries { number } => match files.queries.as_slice().get(number) {
             Some(path) => path.as_str(),
             None => "queries",
+        },
+        Role::Bound => match &files.bound {
+            Some(path) => path.as_str(),
+            None => "code",
         },
     }
 }

@@ -7,6 +7,7 @@ ghost use Rattle.metric_command_lines.specs.Apps.{replay_app, second_app, show_a
 
 use crate::programs::with_command;
 use crate::wormweekly::arguments::{file, flag, number, output, text, texts};
+use crate::wormweekly::bind_command::bind;
 use crate::wormweekly::diff_command::diff;
 use crate::wormweekly::expand_command::expand;
 use crate::wormweekly::queries_command::queries;
@@ -76,7 +77,8 @@ pub(crate) fn program<'a>(alloc: Global) -> Result<Command<'a>, AllocError>
     let program = with_command(program, diff(alloc));
     let program = with_command(program, report(alloc));
     let program = with_command(program, expand(alloc));
-    with_command(program, queries(alloc))
+    let program = with_command(program, queries(alloc));
+    with_command(program, bind(alloc))
 }
 
 fn second<'a>(alloc: Global) -> Result<Command<'a>, AllocError>

@@ -18,6 +18,8 @@ pub enum Misuse {
     Outlet,
     /// `--as` was given no form that there is.
     Form,
+    /// `--for` was given no language that code is made for, or was not given.
+    Language,
     /// `--audit` stands beside `--as`, which prints no replies that were audited.
     Audit,
     /// `--resource` stands without `--as`.

@@ -10,8 +10,10 @@ ghost use Rattle.metric_command_lines.specs.Attributes.{resource_in};
 ghost use Rattle.metric_command_lines.specs.RequestFaults.{IsAllowed, IsMisuse, IsNoRequest, IsNotAsked, IsOwn};
 ghost use Rattle.metric_command_lines.specs.Standard.{output_of};
 ghost use Rattle.metric_command_lines.specs.Requests.{certificate_in, denies_else, files_in, form_in, form_of, forms_else, has_word, old_in, options_in, request_in, resource_asked, script_in, task_of, text_in};
+ghost use Rattle.metric_command_lines.specs.Requests.{language_in, languages_else};
 ghost use Rattle.metric_command_lines.specs.Requests.{all_word, allows_else, concerns_in, asks_for_no_page, is_concern, is_denied, is_outlet, outlets_else, reads_else, words_in};
 
+use crate::language::Language;
 use crate::numbers::number_of;
 use crate::wormweekly::attributes::{key_and_value, resource_of};
 use crate::wormweekly::commands::program;
@@ -134,6 +136,9 @@ fn resource_asked(
     if reads_twice(files) {
         return Err(RequestFault::Misused(Misuse::Input));
     }
+    if languages_else(task, arguments) {
+        return Err(RequestFault::Misused(Misuse::Language));
+    }
     resource_given(alloc, arguments)
 }
 
@@ -149,6 +154,26 @@ fn asks_for_no_page(task: Task, arguments: &ArgMatches<'_>) -> bool
     ensures { result ≡ asks_for_no_page task (rows_of (found_of arguments.now)) }
 {
     task == Task::Queries && has_text(arguments, "as") && !form_in(arguments).is_page()
+}
+
+// The language that `--for` names.
+fn language_in(arguments: &ArgMatches<'_>) -> Option<Language>
+    ensures { result ≡ language_in (rows_of (found_of arguments.now)) }
+{
+    match arguments.get_str("language") {
+        Some(word) => Language::named(word),
+        None => None,
+    }
+}
+
+// Whether code is to be made, and no language is named.
+fn languages_else(task: Task, arguments: &ArgMatches<'_>) -> bool
+    ensures { result ≡ languages_else task (rows_of (found_of arguments.now)) }
+{
+    match language_in(arguments) {
+        Some(_) => false,
+        None => task == Task::Bind,
+    }
 }
 
 // The resource that the words of all uses of `--resource` give.
@@ -221,6 +246,7 @@ fn task_of(command: &str) -> Task
         "report" => Task::Report,
         "expand" => Task::Expand,
         "queries" => Task::Queries,
+        "bind" => Task::Bind,
         _ => Task::Draw,
     }
 }
@@ -236,6 +262,7 @@ fn files_of(alloc: Global, arguments: &ArgMatches<'_>) -> Result<Files, AllocErr
     let accepted = optional(alloc, arguments, "accepted")?;
     let script = script_of(alloc, arguments)?;
     let queries = words_in(alloc, arguments, "queries")?;
+    let bound = optional(alloc, arguments, "bound")?;
     let output = output_in(alloc, arguments)?;
     Ok(Files {
         old_catalogue,
@@ -246,6 +273,7 @@ fn files_of(alloc: Global, arguments: &ArgMatches<'_>) -> Result<Files, AllocErr
         accepted,
         script,
         queries,
+        bound,
         output,
     })
 }
@@ -302,6 +330,7 @@ fn options_of(arguments: &ArgMatches<'_>) -> Options
         json: has_word(arguments, "json", "true"),
         audit: has_word(arguments, "audit", "true"),
         form: form_in(arguments),
+        language: language_in(arguments),
         width: number_of(arguments, "width"),
         rate: number_of(arguments, "rate"),
         instances: number_of(arguments, "instances"),

@@ -2,6 +2,7 @@
 ghost use Rattle.std.specs.Prelude.{◌≡◌};
 ghost use Rattle.metric_command_lines.specs.Forms.{is_page};
 
+use crate::language::Language;
 use metric_base::{Items, Text};
 use metric_resource::Resource;
 
@@ -30,6 +31,8 @@ pub enum Task {
     Expand,
     /// Print what queries ask for that no page can have.
     Queries,
+    /// Make code of a catalogue, or compare it with a file.
+    Bind,
 }
 
 /// The paths of the files that a command reads and writes. One of those that are read may be `-`, standard input.
@@ -51,6 +54,8 @@ pub struct Files {
     pub script: Option<Text>,
     /// Where the queries are, where the command has such files.
     pub queries: Items<Text>,
+    /// Where the code is that is compared with what is made, where the command has such a file.
+    pub bound: Option<Text>,
     /// The file to write to, in place of standard output; never `-`, which is that.
     pub output: Option<Text>,
 }
@@ -93,6 +98,8 @@ pub struct Options {
     pub audit: bool,
     /// What a replay prints.
     pub form: Form,
+    /// The language that code is made for.
+    pub language: Option<Language>,
     /// How wide a table may be, in columns: 0 where it is not said.
     pub width: u32,
     /// How many recordings a second a process makes on an instrument.

@@ -30,7 +30,7 @@ pub(crate) fn reads_twice(files: &Files) -> bool
     let old = times_of(&files.old_catalogue) + times_of(&files.old_config);
     let new = times_at(&files.catalogue) + times_at(&files.config);
     let beside = times_of(&files.certificate) + times_of(&files.accepted);
-    let times = old + new + beside + times_of(&files.script);
+    let times = old + new + beside + times_of(&files.script) + times_of(&files.bound);
     let queries = standard_count(&files.queries);
     match times {
         0 => queries > 1,

@@ -8,4 +8,5 @@ returns c =
     let diff = c.with_command-program-3.ensures _ _ draw c.diff.ensures.app c.diff.ensures.local in
     let report = c.with_command-program-4.ensures _ _ diff c.report.ensures.app c.report.ensures.local in
     let expand = c.with_command-program-5.ensures _ _ report c.expand.ensures.app c.expand.ensures.local in
-    c.with_command.ensures _ _ expand c.queries.ensures.app c.queries.ensures.local
+    let queries = c.with_command-program-6.ensures _ _ expand c.queries.ensures.app c.queries.ensures.local in
+    c.with_command.ensures _ _ queries c.bind.ensures.app c.bind.ensures.local

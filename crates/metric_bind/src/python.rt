@@ -1,0 +1,201 @@
+//! The file for Python.
+use crate::language::{Language, Names};
+use crate::naming::{Shape, Style};
+use crate::quoting::Quotes;
+
+/// Python.
+pub(crate) static PYTHON: Language = Language {
+    own: &[],
+    types: Names {
+        style: Style {
+            shape: Shape::Camel,
+            taken: &[&TYPES],
+        },
+        whole: &["$type$"],
+    },
+    values: Names {
+        style: Style {
+            shape: Shape::Snake,
+            taken: &[],
+        },
+        whole: &[],
+    },
+    meters: Names {
+        style: Style {
+            shape: Shape::Snake,
+            taken: &[&WORDS, &FIELDS],
+        },
+        whole: &["_Meter_$meter$"],
+    },
+    instruments: Names {
+        style: Style {
+            shape: Shape::Snake,
+            taken: &[&WORDS],
+        },
+        whole: &["_On_$meter$__$on$"],
+    },
+    keys: Names {
+        style: Style {
+            shape: Shape::Snake,
+            taken: &[&WORDS, &OWN],
+        },
+        whole: &["_On_$meter$__$on$($key$)"],
+    },
+    seats: Names {
+        style: Style {
+            shape: Shape::Snake,
+            taken: &[&WORDS],
+        },
+        whole: &["Recorders.$seat$"],
+    },
+    has_lists: true,
+    quotes: Quotes::Eight,
+    code: &[HEAD, INSTRUMENT, METERS, METRICS],
+};
+
+const TYPES: [&str; 15] = [
+    "ArithmeticError",
+    "BaseException",
+    "Ellipsis",
+    "Exception",
+    "False",
+    "Literal",
+    "LookupError",
+    "Metrics",
+    "None",
+    "NotImplemented",
+    "OSError",
+    "Recorders",
+    "True",
+    "TypeError",
+    "ValueError",
+];
+
+// What stands beside the meters.
+const FIELDS: [&str; 4] = ["open", "own", "readers", "recorders"];
+
+const WORDS: [&str; 38] = [
+    "False", "None", "True", "and", "as", "assert", "async", "await", "break", "case", "class",
+    "continue", "def", "del", "elif", "else", "except", "finally", "for", "from", "global", "if",
+    "import", "in", "is", "lambda", "match", "nonlocal", "not", "or", "pass", "raise", "return",
+    "try", "type", "while", "with", "yield",
+];
+
+// What a call or the language knows by another meaning.
+const OWN: [&str; 13] = [
+    "at", "bool", "dict", "int", "list", "object", "own", "said", "seat", "self", "str", "tuple",
+    "value",
+];
+
+const HEAD: &str =
+    r#"# Made by `wormweekly bind --for python`, not to be edited: `wormweekly bind --check` compares it.
+"""What the service may record."""
+
+from __future__ import annotations
+
+from typing import Literal
+
+import wormweekly as _w
+$#type$
+
+# The values of the key $said_key$.
+$type$ = $?yes$bool$/$$!yes$Literal[
+$#value$
+    $text$$whole$$?is_true$True$/$$?is_false$False$/$,
+$/$
+]$/$
+
+$/$
+"#;
+
+const INSTRUMENT: &str = r#"$#meter$
+$#instrument$
+
+
+class _On_$meter$__$on$:
+    # $said_meter$ $said$: $spoken$$?unit$ in $unit$$/$, $lo$ to $hi$.$?description$ $description$$/$$?allowed$ Not all values combine: the catalogue lists which do.$/$
+
+    __slots__ = ("_bound", "on")
+
+    def __init__(self, on: _w.Instrument) -> None:
+        self.on = on
+        self._bound: dict[object, _w.Bound] = {}
+
+    def $?adds$add$/$$!adds$record$/$(self, seat: _w.Recorder, value: int$?has_keys$, *$/$$#key$, $key$: $of$$?may$ | None = None$/$$/$) -> None:
+        """$?adds$Adds$/$$!adds$Records$/$ a value, or raises a `Refusal`: nothing is counted then."""
+        at = ($#key$$key$, $key$.__class__, $/$)
+        own = self._bound.get(at)
+        if own is None:
+            said: dict[str, _w.Value] = {}
+$#key$
+$?may$
+            if $key$ is not None:
+                said[$quoted_key$] = $key$
+$/$
+$!may$
+            said[$quoted_key$] = $key$
+$/$
+$/$
+            own = self._bound[at] = self.on.bind(said)
+        seat.add(own, value)
+$/$
+$/$
+"#;
+
+const METERS: &str = r#"$#meter$
+
+
+class _Meter_$meter$:
+    def __init__(self, own: _w.Metrics) -> None:
+$#instrument$
+        self.$on$ = _On_$meter$__$on$(
+            own.expect($quoted_meter$, $quoted$, _w.Kind.$KIND$, $quoted_unit$, [
+$#key$
+                _w.ExpectedKey(
+                    $quoted_key$,
+                    (
+$#link$
+$#value$
+                        $text$$whole$$?is_true$True$/$$?is_false$False$/$,
+$/$
+$/$
+                    ),
+                    $?may$True$/$$!may$False$/$,
+                ),
+$/$
+            ])
+        )
+$/$
+$/$
+"#;
+
+const METRICS: &str = r#"
+
+class Metrics:
+    """All instruments, each under its meter, and the recorders."""
+
+    def __init__(self, own: _w.Metrics) -> None:
+        """Compares a run that is opened with what this file was made of."""
+        self.own = own
+        self.readers = own.readers
+        self.recorders = Recorders(own)
+$#meter$
+        self.$meter$ = _Meter_$meter$(own)
+$/$
+
+    @classmethod
+    def open(cls, catalogue: str, config: str, *, certificate: str | None = None, start: int | None = None) -> Metrics:
+        """Opens a run, and compares it with what this file was made of."""
+        return cls(_w.Metrics.open(catalogue, config, certificate=certificate, start=start))
+
+
+class Recorders:
+    """The recorders by their names; those that are numbered from 0 are a list."""
+
+    def __init__(self, own: _w.Metrics) -> None:
+        self.own = own.recorders
+$#seat$
+        self.$seat$ = $?list$[$/$$#one$own.recorder($quoted_seat$)$?list$, $/$$/$$?list$]$/$
+
+$/$
+"#;

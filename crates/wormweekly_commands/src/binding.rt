@@ -1,0 +1,205 @@
+//! The command that makes code of a catalogue.
+ghost use Rattle.std.specs.Prelude.{◌≡◌, ◌≢◌, Ok, IfErr, IfOk, true};
+ghost use Rattle.metric_catalogue.specs.Catalogues.{opened_of};
+ghost use Rattle.wormweekly_commands.specs.Faults.{IsUnread};
+ghost use Rattle.wormweekly_commands.specs.Readings.{IsHeld};
+ghost use Rattle.wormweekly_commands.specs.Runs.{BindsFile, IsSourceFault, known_by, writing};
+
+use crate::delivering::{print, put};
+use crate::expanding::source_of;
+use crate::fault::{ConsoleFault, Role};
+use crate::folder::{Folder, Unread};
+use crate::message::Message;
+use crate::parts::{Texts, text_at};
+use crate::shown_path::shown;
+use crate::telling::stop;
+use metric_base::Text;
+use metric_bind::{BindFault, Bound, Source, c_code, go_code, python_code, rust_code};
+use metric_catalogue::{Catalogue, CatalogueFault};
+use metric_command_lines::{Language, Request};
+use metric_io::Sink;
+use metric_kit_commands::KitFault;
+use std::alloc::{AllocError, Global};
+
+// The exit status where no code is made, or other code than a file has.
+const REFUSED: u8 = 1;
+
+/// Makes the code that a request asks for, and writes it where the request wants it or compares it with a file. Tells on
+/// `errors` why it stops. The exit status.
+pub(crate) fn run_bind<F: Folder, W: Sink, E: Sink>(
+    alloc: Global,
+    request: &Request,
+    folder: &mut F,
+    sink: &mut W,
+    errors: &mut E,
+) -> u8
+    ensures { BindsFile (known_by F.held F.same folder.old) request.now.files
+        (writing F.made W.contents folder.old folder.new sink.old sink.new) result }
+{
+    match source_of(alloc, folder, &request.files) {
+        Ok(texts) => bind_source(alloc, request, &texts, folder, sink, errors),
+        Err(fault) => stop(alloc, request, None, fault, errors),
+    }
+}
+
+// Makes code of a catalogue that was read.
+fn bind_source<F: Folder, W: Sink, E: Sink>(
+    alloc: Global,
+    request: &Request,
+    texts: &Texts,
+    folder: &mut F,
+    sink: &mut W,
+    errors: &mut E,
+) -> u8
+    requires { IsHeld (F.held folder.old) request.now.files.catalogue texts.now.parts.catalogue }
+    ensures { BindsFile (known_by F.held F.same folder.old) request.now.files
+        (writing F.made W.contents folder.old folder.new sink.old sink.new) result }
+{
+    let source = texts.parts.catalogue.as_str();
+    match opened(alloc, source) {
+        Ok(catalogue) => bind_catalogue(alloc, request, source, &catalogue, folder, sink, errors),
+        Err(fault) => stop(alloc, request, Some(texts), fault, errors),
+    }
+}
+
+// The catalogue that a text is.
+fn opened(alloc: Global, text: &str) -> Result<Catalogue, ConsoleFault>
+    ensures ok { IfOk result (λ catalogue. opened_of text.now ≡ Ok catalogue) }
+    ensures first { IfErr result (IsSourceFault text.now) }
+{
+    match Catalogue::open(alloc, text) {
+        Ok(catalogue) => Ok(catalogue),
+        Err(CatalogueFault::Memory) => Err(no_memory()),
+        Err(fault) => Err(ConsoleFault::Kit(KitFault::Catalogue(fault))),
+    }
+}
+
+fn no_memory() -> ConsoleFault
+    ensures { result ≡ ConsoleFault.Unread Role.Catalogue Unread.Memory }
+{
+    ConsoleFault::Unread {
+        role: Role::Catalogue,
+        cause: Unread::Memory,
+    }
+}
+
+// Makes code of a catalogue that was opened.
+fn bind_catalogue<F: Folder, W: Sink, E: Sink>(
+    alloc: Global,
+    request: &Request,
+    source: &str,
+    catalogue: &Catalogue,
+    folder: &mut F,
+    sink: &mut W,
+    errors: &mut E,
+) -> u8
+    requires read { IsHeld (F.held folder.old) request.now.files.catalogue source.now }
+    requires opened { opened_of source.now ≡ Ok catalogue.now }
+    ensures { BindsFile (known_by F.held F.same folder.old) request.now.files
+        (writing F.made W.contents folder.old folder.new sink.old sink.new) result }
+{
+    match code_of(alloc, request.options.language, catalogue) {
+        Ok(bound) => put_code(
+            alloc,
+            request,
+            source,
+            catalogue,
+            bound.text(),
+            folder,
+            sink,
+            errors,
+        ),
+        Err(BindFault::Memory) => stop(alloc, request, None, no_memory(), errors),
+        Err(fault) => refuse(alloc, request, fault, errors),
+    }
+}
+
+// The code that a catalogue comes to.
+fn code_of(
+    alloc: Global,
+    language: Option<Language>,
+    catalogue: &Catalogue,
+) -> Result<Bound, BindFault> {
+    let source = Source {
+        meters: catalogue.meters(),
+        instruments: catalogue.instruments(),
+        recorders: catalogue.recorders(),
+    };
+    match language {
+        Some(Language::C) => c_code(alloc, source),
+        Some(Language::Go) => go_code(alloc, source),
+        Some(Language::Python) => python_code(alloc, source),
+        Some(Language::Rust) | None => rust_code(alloc, source),
+    }
+}
+
+// Writes code, or compares it with a file.
+fn put_code<F: Folder, W: Sink, E: Sink>(
+    alloc: Global,
+    request: &Request,
+    source: &str,
+    catalogue: &Catalogue,
+    code: &str,
+    folder: &mut F,
+    sink: &mut W,
+    errors: &mut E,
+) -> u8
+    requires read { IsHeld (F.held folder.old) request.now.files.catalogue source.now }
+    requires opened { opened_of source.now ≡ Ok catalogue.now }
+    ensures { BindsFile (known_by F.held F.same folder.old) request.now.files
+        (writing F.made W.contents folder.old folder.new sink.old sink.new) result }
+{
+    let Some(path) = &request.files.bound else {
+        return match put(&request.files.output, code.as_bytes(), folder, sink) {
+            Ok(()) => 0,
+            Err(fault) => stop(alloc, request, None, fault, errors),
+        };
+    };
+    match is_held(alloc, folder, path, code) {
+        Ok(true) => 0,
+        Ok(false) => tell(alloc, path, OTHERWISE, errors),
+        Err(fault) => stop(alloc, request, None, fault, errors),
+    }
+}
+
+const OTHERWISE: &str = "it would be made otherwise: run 'wormweekly bind' again";
+
+// Whether a file has this text.
+fn is_held<F: Folder>(
+    alloc: Global,
+    folder: &F,
+    path: &Text,
+    code: &str,
+) -> Result<bool, ConsoleFault>
+    ensures same { IfOk result (λ same. same ≡ true
+        → IsHeld (F.held folder.now) path.now code.now) }
+    ensures unread { IfErr result IsUnread }
+{
+    let text = text_at(alloc, folder, path, Role::Bound)?;
+    Ok(text.as_str() == code)
+}
+
+// Tells why no code is made of a catalogue.
+fn refuse<E: Sink>(alloc: Global, request: &Request, fault: BindFault, errors: &mut E) -> u8
+    ensures { result ≡ 1 }
+{
+    match fault.to_string(alloc) {
+        Ok(words) => tell(alloc, &request.files.catalogue, words.as_str(), errors),
+        Err(_) => tell(alloc, &request.files.catalogue, "out of memory", errors),
+    }
+}
+
+// Tells what is wrong with a file, whatever becomes of the telling.
+fn tell<E: Sink>(alloc: Global, path: &Text, words: &str, errors: &mut E) -> u8
+    ensures { result ≡ 1 }
+{
+    let _message = match told_of(alloc, path, words) {
+        Ok(told) => print(errors, told.text.as_str()),
+        Err(_) => print(errors, "out of memory\n"),
+    };
+    REFUSED
+}
+
+fn told_of(alloc: Global, path: &Text, words: &str) -> Result<Message, AllocError> {
+    Message::of_file(alloc, shown(path.as_str()), words)
+}
