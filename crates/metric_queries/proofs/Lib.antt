@@ -1,4 +1,6 @@
 mod Pairs
 mod Texts
 mod Marks
+mod LineTexts
+mod AskedSets
 mod KeyByKey
