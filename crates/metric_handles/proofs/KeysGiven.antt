@@ -22,11 +22,10 @@ use Rattle.metric_facts.specs.Facts.{in_bounds}
 use Rattle.metric_plan.specs.Plans.{PlanValue, print_of}
 use Rattle.metric_seat.specs.Recordings.{AnswersSeat, RefusesRecording, SeatSpares, told_at}
 use Rattle.metric_seat.specs.Seats.{RecorderValue, is_recorder_of}
-use Rattle.metric_views.specs.Selection.{is_kind}
 use Rattle.metric_handles.specs.Bounds.{BoundValue, HandleValue, bound_of}
 use Rattle.metric_handles.specs.declared.fault.HandleFault.TheVariants as faults
 use Rattle.metric_handles.specs.KeysGiven.{BindsKeys, IsNotOfKeys, IsOfValues, RecordsKeys, keys_of}
-use Rattle.metric_handles.specs.Named.{checked, handle_in, handle_of, is_missing, is_text, is_undeclared, keys_checked, number_named, repeated_from}
+use Rattle.metric_handles.specs.Named.{handle_in, handle_of, is_missing, is_text, is_undeclared, keys_checked, number_of_kind, repeated_from}
 use Rattle.metric_handles.proofs.Mapped.{list_any-map}
 
 -- ---- what the comparison says of attributes with just these keys
@@ -97,15 +96,14 @@ at_number (Some other) instrument attrs e rest =
 
 spares_keys : (contents : Contents) (kind : Kind) (meter name : List ℕ) (number : ℕ) (attrs : List Given)
     → handle_of contents kind meter name (keys_of attrs) ≡ Ok number → IfErr (encode_of contents.instruments number attrs) IsOfValues
-unfolding handle_of checked encode_of
+unfolding handle_of encode_of
 spares_keys contents kind meter name number attrs e =
-    after_ok (number_named contents meter name) _ number e (λ n named rest.
+    after_ok (number_of_kind contents kind meter name) _ number e (λ n named rest.
     after_ok (require_some (slice_get contents.instruments n) faults.UnknownInstrument) _ number rest (λ instrument found more.
-    after_ok (checked instrument kind (keys_of attrs)) _ number more (λ done right last.
-    after_ok (require (is_kind kind instrument.kind) (faults.OtherKind instrument.kind)) _ done right (λ same is_same keys.
+    after_ok (keys_checked instrument.keys (keys_of attrs)) _ number more (λ done keys last.
     let at : n ≡ number = cc in
     subst (λ m. IfErr (encode_of contents.instruments m attrs) IsOfValues) at
-    (at_number (slice_get contents.instruments n) instrument attrs found (values_alone instrument attrs keys))))))
+    (at_number (slice_get contents.instruments n) instrument attrs found (values_alone instrument attrs keys)))))
 
 -- ---- in any order
 

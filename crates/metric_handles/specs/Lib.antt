@@ -1,5 +1,6 @@
 pub mod Named
 pub mod KeysGiven
+pub mod Meant
 pub mod Bounds
 pub mod Calls
 pub mod Seats

@@ -56,6 +56,14 @@ number_named contents meter name = do
   _ ← require (not (list_any named (drop (first + 1) contents.instruments))) (Ambiguous first)
   Ok first
 
+-- the same, where the instrument is of the kind
+unfoldable pub number_of_kind : Contents → Kind → List ℕ → List ℕ → Result ℕ HandleFault
+number_of_kind contents kind meter name = do
+  number ← number_named contents meter name
+  instrument ← require_some (slice_get contents.instruments number) UnknownInstrument
+  _ ← require (is_kind kind instrument.kind) (OtherKind instrument.kind)
+  Ok number
+
 -- the text is the same
 abbrev pub is_text : List ℕ → List ℕ → Bool
 is_text text other = bytes_eq other text
@@ -83,18 +91,12 @@ keys_checked declared keys = do
   _ ← require_none (position_from (is_undeclared declared) 0 keys) UnknownKey
   require_none (position_from (is_missing keys) 0 declared) MissingKey
 
--- the instrument is of the kind, and the keys are in order
-unfoldable pub checked : Instrument → Kind → List (List ℕ) → Result (Unit {0}) HandleFault
-checked instrument kind keys = do
-  _ ← require (is_kind kind instrument.kind) (OtherKind instrument.kind)
-  keys_checked instrument.keys keys
-
 -- the number of the instrument that all this is of, or the first fault
 unfoldable pub handle_of : Contents → Kind → List ℕ → List ℕ → List (List ℕ) → Result ℕ HandleFault
 handle_of contents kind meter name keys = do
-  number ← number_named contents meter name
+  number ← number_of_kind contents kind meter name
   instrument ← require_some (slice_get contents.instruments number) UnknownInstrument
-  _ ← checked instrument kind keys
+  _ ← keys_checked instrument.keys keys
   Ok number
 
 -- # handle (API, create an instrument) [handle_in, handle_of]

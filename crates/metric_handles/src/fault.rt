@@ -5,7 +5,7 @@ use metric_contents::Kind;
 use std::fmt::{self, InlineText};
 use thiserror::Error;
 
-/// Why a name, a kind and keys are of no instrument, in the order in which the faults are tried. Places are counted
+/// Why a name, a kind and keys or a meaning are of no instrument, in the order in which the faults are tried. Places are counted
 /// from 0.
 #[derive(Clone, Copy, Debug, PartialEq, Eq, Drop, Error)]
 pub enum HandleFault {
@@ -22,6 +22,9 @@ pub enum HandleFault {
     /// The instrument is declared to be of this kind.
     #[error("the instrument is declared as {0:?}")]
     OtherKind(Kind),
+    /// The instrument is not what the program was made for.
+    #[error("the instrument means something else")]
+    OtherMeaning,
     /// The key at this place of the list stands again after it.
     #[error("key {0} of the list stands again after it")]
     RepeatedKey(usize),
@@ -33,7 +36,8 @@ pub enum HandleFault {
     MissingKey(usize),
 }
 
-/// Why there is no handle, in words that name the meter, the instrument, and the key where it is about one.
+/// Why there is no handle, in words that name the meter, the instrument, and the key where it is about one, or in what
+/// the instrument differs first.
 #[derive(Clone, Copy)]
 pub struct NoHandle {
     /// Why.
@@ -42,14 +46,19 @@ pub struct NoHandle {
 }
 
 impl NoHandle {
-    // Why there is none of these names, and the key that the fault is about.
-    pub(crate) fn new(meter: &str, name: &str, key: Option<&str>, fault: HandleFault) -> NoHandle
+    // Why there is none of these names, and what the fault is about.
+    pub(crate) fn new<D: fmt::Display + Drop>(
+        meter: &str,
+        name: &str,
+        detail: Option<D>,
+        fault: HandleFault,
+    ) -> NoHandle
         ensures { result.fault ≡ fault }
     {
         let words = InlineText::of(About {
             meter,
             name,
-            key,
+            detail,
             fault,
         });
         NoHandle { fault, words }
@@ -70,19 +79,19 @@ impl fmt::Debug for NoHandle {
 
 impl std::error::Error for NoHandle {}
 
-#[derive(Clone, Copy)]
-struct About<'a> {
+#[derive(Drop)]
+struct About<'a, D> {
     meter: &'a str,
     name: &'a str,
-    key: Option<&'a str>,
+    detail: Option<D>,
     fault: HandleFault,
 }
 
-impl fmt::Display for About<'_> {
+impl<D: fmt::Display> fmt::Display for About<'_, D> {
     fn fmt<W: fmt::Write>(&self, f: &mut fmt::Formatter<W>) -> fmt::Result {
         write!(f, "{}/{}: {}", self.meter, self.name, self.fault)?;
-        match self.key {
-            Some(key) => write!(f, ": {key}"),
+        match &self.detail {
+            Some(detail) => write!(f, ": {detail}"),
             None => Ok(()),
         }
     }

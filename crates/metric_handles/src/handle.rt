@@ -9,7 +9,7 @@ use crate::bound::Bound;
 use crate::bound_list::BoundList;
 use crate::kinds::{Adds, IsCounter, IsGauge, IsHistogram, IsUpDownCounter, Records};
 use crate::seat::Seat;
-use metric_contents::{Attr, Refusal};
+use metric_contents::{Attr, Refusal, SetKey};
 use metric_history::Book;
 use metric_plan::Plan;
 use metric_provider::{Gate, Provider};
@@ -101,6 +101,16 @@ impl<K> Handle<K> {
         let number = self.number_in(plan)?;
         let set = plan.catalogue().encode(number, attrs)?;
         Ok(Bound::of(self.plan, number, set))
+    }
+
+    /// The set key, bound to the instrument, whatever it names: a recording compares it with the instrument, and is
+    /// refused `UnknownValue` where it is no set of it, or `Combination`. So a program that knows the ranks of its
+    /// values looks up nothing: [`expected`](crate::expected) says that it knows them.
+    pub fn bind_set(&self, set: SetKey) -> Bound<K>
+        ensures { result
+            ≡ record { plan = self.now.plan; instrument = self.now.number; set = set } }
+    {
+        Bound::of(self.plan, self.number, set)
     }
 
     /// An empty list of bound recordings of the instrument.

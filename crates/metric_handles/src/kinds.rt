@@ -1,4 +1,5 @@
 //! What handles are marked with, so that each kind of instrument has its own word.
+use metric_contents::Kind;
 
 /// The mark of a counter's handles.
 #[derive(Clone, Copy)]
@@ -16,6 +17,16 @@ pub struct IsHistogram;
 #[derive(Clone, Copy)]
 pub struct IsGauge;
 
+/// A mark of one kind of instrument.
+pub trait OfKind {
+    ghost use Rattle.metric_contents.specs.declared.contents.Kind.{Kind as kinds};
+
+    ghost KIND: { kinds };
+
+    /// The kind.
+    const KIND: Kind;
+}
+
 /// A kind of instrument to which values are added (Metrics API, Counter and UpDownCounter).
 pub trait Adds {}
 
@@ -29,3 +40,35 @@ impl Adds for IsUpDownCounter {}
 impl Records for IsHistogram {}
 
 impl Records for IsGauge {}
+
+impl OfKind for IsCounter {
+    ghost use Rattle.metric_contents.specs.declared.contents.Kind.TheVariants as kinds;
+
+    ghost KIND = { kinds.Counter };
+
+    const KIND: Kind = Kind::Counter;
+}
+
+impl OfKind for IsUpDownCounter {
+    ghost use Rattle.metric_contents.specs.declared.contents.Kind.TheVariants as kinds;
+
+    ghost KIND = { kinds.UpDownCounter };
+
+    const KIND: Kind = Kind::UpDownCounter;
+}
+
+impl OfKind for IsHistogram {
+    ghost use Rattle.metric_contents.specs.declared.contents.Kind.TheVariants as kinds;
+
+    ghost KIND = { kinds.Histogram };
+
+    const KIND: Kind = Kind::Histogram;
+}
+
+impl OfKind for IsGauge {
+    ghost use Rattle.metric_contents.specs.declared.contents.Kind.TheVariants as kinds;
+
+    ghost KIND = { kinds.Gauge };
+
+    const KIND: Kind = Kind::Gauge;
+}

@@ -4,10 +4,11 @@ ghost use Rattle.std.specs.List.{list_any, position_from};
 ghost use Rattle.metric_contents.specs.declared.contents.Kind.TheVariants as kinds;
 ghost use Rattle.metric_contents.specs.KeyNames.{is_key};
 ghost use Rattle.metric_views.specs.Selection.{is_kind};
-ghost use Rattle.metric_handles.specs.Named.{checked, handle_in, handle_of, is_found, is_meter_named, is_missing, is_named, is_of_meter, is_text, is_undeclared, keys_checked, number_named, repeated_from, unknown_of};
+ghost use Rattle.metric_handles.specs.Named.{handle_in, handle_of, is_found, is_meter_named, is_missing, is_named, is_of_meter, is_text, is_undeclared, keys_checked, number_named, number_of_kind, repeated_from, unknown_of};
 
 use crate::fault::{HandleFault, NoHandle};
 use crate::handle::{Counter, Gauge, Handle, Histogram, UpDownCounter};
+use crate::kinds::OfKind;
 use metric_catalogue::Catalogue;
 use metric_contents::{Instrument, Key, Kind, Meter};
 use metric_plan::Plan;
@@ -32,7 +33,7 @@ pub fn counter(plan: &Plan, meter: &str, name: &str, keys: &[&str]) -> Result<Co
     ensures { let keys = map (λ key. key.now) keys.now in
         is_found result ≡ handle_in plan.now kinds.Counter meter.now name.now keys }
 {
-    look_up(plan, Kind::Counter, meter, name, keys)
+    look_up(plan, meter, name, keys)
 }
 
 /// The same of an up-down counter (Metrics API, UpDownCounter creation).
@@ -49,7 +50,7 @@ pub fn up_down_counter(
     ensures { let keys = map (λ key. key.now) keys.now in
         is_found result ≡ handle_in plan.now kinds.UpDownCounter meter.now name.now keys }
 {
-    look_up(plan, Kind::UpDownCounter, meter, name, keys)
+    look_up(plan, meter, name, keys)
 }
 
 /// The same of a histogram (Metrics API, Histogram creation).
@@ -61,7 +62,7 @@ pub fn histogram(plan: &Plan, meter: &str, name: &str, keys: &[&str]) -> Result<
     ensures { let keys = map (λ key. key.now) keys.now in
         is_found result ≡ handle_in plan.now kinds.Histogram meter.now name.now keys }
 {
-    look_up(plan, Kind::Histogram, meter, name, keys)
+    look_up(plan, meter, name, keys)
 }
 
 /// The same of a gauge (Metrics API, Gauge creation).
@@ -73,21 +74,20 @@ pub fn gauge(plan: &Plan, meter: &str, name: &str, keys: &[&str]) -> Result<Gaug
     ensures { let keys = map (λ key. key.now) keys.now in
         is_found result ≡ handle_in plan.now kinds.Gauge meter.now name.now keys }
 {
-    look_up(plan, Kind::Gauge, meter, name, keys)
+    look_up(plan, meter, name, keys)
 }
 
 // The handle of the instrument that all this is of, or the first fault, with what it is about.
-fn look_up<K>(
+fn look_up<K: OfKind>(
     plan: &Plan,
-    kind: Kind,
     meter: &str,
     name: &str,
     keys: &[&str],
 ) -> Result<Handle<K>, NoHandle>
     ensures { let keys = map (λ key. key.now) keys.now in
-        is_found result ≡ handle_in plan.now kind meter.now name.now keys }
+        is_found result ≡ handle_in plan.now K.KIND meter.now name.now keys }
 {
-    match handle_of(plan.catalogue(), kind, meter, name, keys) {
+    match handle_of(plan.catalogue(), K::KIND, meter, name, keys) {
         Ok(number) => Ok(Handle::of(plan, number)),
         Err(fault) => {
             let key = key_of(plan.catalogue(), meter, name, keys, fault);
@@ -129,12 +129,30 @@ fn handle_of(
     ensures { let keys = map (λ key. key.now) keys.now in
         result ≡ handle_of catalogue.now kind meter.now name.now keys }
 {
+    let number = number_of_kind(catalogue, kind, meter, name)?;
+    match catalogue.instruments().get(number as usize) {
+        Some(instrument) => {
+            keys_checked(instrument.keys.as_slice(), keys)?;
+            Ok(number)
+        }
+        None => Err(HandleFault::UnknownInstrument),
+    }
+}
+
+// The number of the only instrument of this name in the meters of that name, where it is of the kind.
+#[tactic(auto, unfolding(crate::specs::Named::number_of_kind))]
+pub(crate) fn number_of_kind(
+    catalogue: &Catalogue,
+    kind: Kind,
+    meter: &str,
+    name: &str,
+) -> Result<u32, HandleFault>
+    ensures { result ≡ number_of_kind catalogue.now kind meter.now name.now }
+{
     let number = number_named(catalogue, meter, name)?;
     match catalogue.instruments().get(number) {
-        Some(instrument) => {
-            checked(instrument, kind, keys)?;
-            Ok(number as u32)
-        }
+        Some(instrument) if is_kind(kind, instrument.kind) => Ok(number as u32),
+        Some(instrument) => Err(HandleFault::OtherKind(instrument.kind)),
         None => Err(HandleFault::UnknownInstrument),
     }
 }
@@ -213,17 +231,6 @@ fn is_of_meter(meters: &[Meter], name: &str, number: u32) -> bool
         Some(meter) => meter.name.as_str() == name,
         None => false,
     }
-}
-
-// Whether the instrument is of the kind and the keys are in order, or the first fault.
-#[tactic(auto, unfolding(crate::specs::Named::checked))]
-fn checked(instrument: &Instrument, kind: Kind, keys: &[&str]) -> Result<(), HandleFault>
-    ensures { result ≡ checked instrument.now kind (map (λ key. key.now) keys.now) }
-{
-    if !is_kind(kind, instrument.kind) {
-        return Err(HandleFault::OtherKind(instrument.kind));
-    }
-    keys_checked(instrument.keys.as_slice(), keys)
 }
 
 fn is_kind(kind: Kind, other: Kind) -> bool

@@ -60,7 +60,9 @@
 //! [`counter`], [`up_down_counter`], [`histogram`] and [`gauge`] find an instrument of the plan by its meter and its
 //! name, and compare its kind and its keys with what the service is going to record. They return a [`Handle`] of that
 //! kind ([`Counter`] and so on), or, before anything is recorded, [`NoHandle`] with a [`HandleFault`], in words that name
-//! the instrument. [`take_recorder`] and [`take_reader`] take a seat out of those that `open` returned.
+//! the instrument. Code that `wormweekly bind` made of a catalogue asks with [`expected`], by the kind of a mark
+//! ([`OfKind`]), whether an instrument is the [`Expected`] one. [`take_recorder`] and [`take_reader`] take a seat out of
+//! those that `open` returned.
 //!
 //! # Record
 //!
@@ -81,10 +83,10 @@
 //!
 //! # Record faster
 //!
-//! `Handle::bind` looks attributes up once. The [`Bound`] that it returns records without a look-up, and a
-//! [`BoundList`] hands on many recordings under one lock. `Bound::timer` gives a [`Timer`], with the [`TimeUnit`] that
-//! its histogram is declared in, or a [`TimerFault`]; `timed` of an `At` records with it how long work took, or returns
-//! a [`TimedFault`].
+//! `Handle::bind` looks attributes up once, and `Handle::bind_set` takes the ranks of values that were compared before.
+//! The [`Bound`] that they return records without a look-up, and a [`BoundList`] hands on many recordings under one lock.
+//! `Bound::timer` gives a [`Timer`], with the [`TimeUnit`] that its histogram is declared in, or a [`TimerFault`];
+//! `timed` of an `At` records with it how long work took, or returns a [`TimedFault`].
 //!
 //! Below both are set keys: `Recorder::admits` gives the [`SetKey`] of attributes, `Recorder::record_set` records with
 //! it, and `Recorder::record_sets` records a list of [`Measurement`]s, up to a [`SetsFault`].
@@ -257,12 +259,13 @@ pub use metric_facts::Facts;
 pub use metric_handles::{
     Adds, AnySeat, Asking, At, Bound, BoundCounter, BoundGauge, BoundHistogram, BoundList,
     BoundUpDownCounter, Counted, Counter, Gauge, Handle, HandleFault, Histogram, IsCounter,
-    IsGauge, IsHistogram, IsUpDownCounter, ListFault, Need, NoHandle, Recorded, Records, Refused,
-    Replaced, Seat, TimeUnit, TimedFault, Timer, TimerFault, UpDownCounter, counter, gauge,
-    histogram, left, take_reader, take_recorder, up_down_counter, value_of,
+    IsGauge, IsHistogram, IsUpDownCounter, ListFault, Need, NoHandle, OfKind, Recorded, Records,
+    Refused, Replaced, Seat, TimeUnit, TimedFault, Timer, TimerFault, UpDownCounter, counter,
+    expected, gauge, histogram, left, take_reader, take_recorder, up_down_counter, value_of,
 };
 pub use metric_history::{Batch, Book, Entry, Point, StreamPoints};
 pub use metric_marked::Marked;
+pub use metric_meaning::Expected;
 pub use metric_provider::{
     AllFault, Collector, FinishFault, Finished, Gate, Measurement, NoGate, Partly, Provider,
     Recorder, RollFault, Rolled, SetsFault, Slip, Told, Total, Totals, batches_are_bounded, start,

@@ -3,13 +3,13 @@ use crate::asserted::OrFail;
 use crate::page::Page;
 use crate::services::{Service, counted};
 use metric_handles::{
-    BoundCounter, BoundList, Counted, Counter, Handle, NoHandle, Replaced, Seat,
-    compared_keys_are_bound, compared_keys_are_recorded, counter, gauge, histogram, left,
+    BoundCounter, BoundList, Counted, Counter, Handle, IsCounter, NoHandle, Replaced, Seat,
+    compared_keys_are_bound, compared_keys_are_recorded, counter, expected, gauge, histogram, left,
     take_reader, take_recorder, up_down_counter, value_of,
 };
 use metric_sdk::{
-    Attr, Batch, Kind, Marked, MeterProvider, Plan, Recorder, Refusal, SetsFault, ValueRef,
-    certified_plan,
+    Attr, Batch, Expected, Kind, Marked, MeterProvider, Plan, Recorder, Refusal, SetsFault,
+    ValueRef, certified_plan,
 };
 use std::alloc::Global;
 use std::process::Abort;
@@ -157,6 +157,42 @@ fn an_instrument_is_found_by_name_kind_and_keys(rt: HostRuntime) {
         tell_asked(&mut page, &plan, asked);
         page.assert(asked.4);
     }
+}
+
+const DE: Attr<'static> = Attr {
+    key: "country",
+    value: ValueRef::Text("de"),
+};
+
+const FR: Attr<'static> = Attr {
+    key: "country",
+    value: ValueRef::Text("fr"),
+};
+
+// Values that programs were made for.
+const EXPECTED: [&[Attr<'static>]; 3] = [&[DE, FR], &[DE], &[FR, DE]];
+
+const MEANT: &str = "0
+0
+shop/orders: the instrument means something else: key \"country\" has no value \"fr\" at place 1
+";
+
+#[test]
+fn an_instrument_is_found_that_means_what_a_program_was_made_for(rt: HostRuntime) {
+    let plan = certified_plan(rt.alloc(), SHOP, READERS).or_fail(&rt);
+    let mut page = Page::new(&rt, rt.alloc());
+    for keys in EXPECTED {
+        let own = Expected {
+            meter: "shop",
+            name: "orders",
+            kind: Kind::Counter,
+            unit: "",
+            keys,
+            optional: 0,
+        };
+        tell_found::<HostRuntime, IsCounter>(&mut page, expected(&plan, &own));
+    }
+    page.assert(MEANT);
 }
 
 fn shop<R: Abort + Wait>(rt: &R, alloc: Global) -> Service {

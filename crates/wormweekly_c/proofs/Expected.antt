@@ -1,29 +1,25 @@
 -- What a program that was made for an instrument records.
 use Rattle.std.proofs.Common.{◌≡◌, ◌∙◌, ◌++◌, ◌∷◌, ◌⊎◌, ◌<◌, ◌≤◌, ◌/◌, ◌%◌, ℕ, zero, suc, Bool, true, cond, List, [], Some, arith, ap, get_or, inl, inr, length, refl, sym, take, true≢false}
 use Rattle.std.specs.Prelude.{◌==◌, All, nat_le, replicate, slice_get}
-use Rattle.std.specs.List.{list_all}
 use Rattle.std.proofs.lemmas.Bool.{and_from, and_parts, cases_lt}
 use Rattle.std.proofs.lemmas.Bool.Decides.{nat_tests}
 use Rattle.std.proofs.lemmas.List.{get_or-take, take_all}
-use Rattle.std.proofs.lemmas.List.Elements.{All-head, All-tail}
+use Rattle.std.proofs.lemmas.List.Elements.{All-head, All-replicate, All-tail}
+use Rattle.std.proofs.lemmas.List.Sums.{list_all-from_AllPass}
 use Rattle.std.proofs.lemmas.Option.{slice_get-get_or}
 use Rattle.metric_names.specs.declared.value.AttrValue.{AttrValue}
 use Rattle.metric_names.specs.declared.value.AttrValue.TheVariants.{Flag}
 use Rattle.metric_contents.specs.declared.contents.Key.{Key}
 use Rattle.metric_contents.specs.Encoding.{Given}
 use Rattle.metric_contents.specs.KeySets.{is_key_entry, is_key_set}
-use Rattle.wormweekly_c.specs.Meanings.{AskedKey, KeyMeans}
+use Rattle.metric_meaning.specs.Meanings.{AskedKey, KeyMeans}
 use Rattle.wormweekly_c.specs.Ranks.{named_at, named_by, valued}
 use Rattle.wormweekly_c.specs.Expected.{ExpectedRanksName, NameAsked, are_ranks}
-
-zeros : (n : ℕ) → list_all (λ entry. entry == 0) (replicate n 0) ≡ true
-zeros zero = refl
-zeros (suc n) = zeros n
 
 -- keys that are left out
 left_out : (keys : List Key) (further : ℕ) → All (λ (key : Key). key.optional ≡ true) keys → length keys ≤ further
     → NameAsked keys [] [] (replicate further 0)
-left_out [] further optional room = record { full = zeros further; named = refl }
+left_out [] further optional room = record { full = list_all-from_AllPass (λ entry. entry == 0) (replicate further 0) (All-replicate (λ entry. (entry == 0) ≡ true) further 0 refl); named = refl }
 left_out (key ∷ keys) zero optional room = absurd (omega arith)
 left_out (key ∷ keys) (suc further) optional room =
     let rest = left_out keys further (All-tail (λ (k : Key). k.optional ≡ true) key keys optional) (omega arith) in

@@ -15,4 +15,3 @@ pub mod LintLaws
 pub mod NamedSets
 pub mod NamedKeys
 pub mod Expected
-pub mod MeaningLaws

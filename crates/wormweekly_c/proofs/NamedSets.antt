@@ -4,7 +4,7 @@ use Rattle.std.specs.Prelude.{◌==◌, All, AllPairs, not, replicate, find, is_
 use Rattle.std.specs.List.{list_all, list_any, position_from}
 use Rattle.std.specs.Option.{option_or}
 use Rattle.std.specs.Str.{bytes_eq}
-use Rattle.std.proofs.lemmas.Bool.{and_from, and_parts, eqb-true}
+use Rattle.std.proofs.lemmas.Bool.{and_from, and_parts, eqb-true, false_from_ne_true}
 use Rattle.std.proofs.lemmas.Bool.Decides.{nat_tests}
 use Rattle.std.proofs.lemmas.List.Folds.{find-append, list_all-append, list_any-append}
 use Rattle.std.proofs.lemmas.List.Elements.{All-head, All-tail}
@@ -25,17 +25,8 @@ use Rattle.metric_contents.specs.KeyNames.{is_key}
 use Rattle.metric_contents.specs.KeySets.{is_key_entry, is_key_set}
 use Rattle.metric_contents.specs.Places.{same_value}
 use Rattle.metric_contents.specs.SameValues.{same_value-Decides}
+use Rattle.metric_meaning.proofs.Apart.{AllPairs-head, AllPairs-tail}
 use Rattle.wormweekly_c.specs.Ranks.{RanksAreTold, RanksNameSets, named_at, named_by, valued}
-
-is_false : (b : Bool) → (b ≡ true → ⊥) → b ≡ false
-is_false true never = absurd (never refl)
-is_false false never = refl
-
-tail_apart : {X : Type 0} (R : X → X → Type 0) (x : X) (xs : List X) → AllPairs R (x ∷ xs) → AllPairs R xs
-tail_apart R x xs all i j d lt within = all (suc i) (suc j) d (omega arith) (omega arith)
-
-head_apart : {X : Type 0} (R : X → X → Type 0) (x : X) (xs : List X) → AllPairs R (x ∷ xs) → All (R x) xs
-head_apart R x xs all i d within = all 0 (suc i) d (omega arith) (omega arith)
 
 -- ---- the place of a value among values that are apart
 
@@ -50,8 +41,8 @@ place_own (one ∷ values) i (suc n) value apart at =
     let within : n < length values = slice_get_within values n value at in
     let differs : one ≢ get_or values n one = apart 0 (suc n) one (omega arith) (omega arith) in
     let is : get_or values n one ≡ value = get_or_from_slice_get values n value one at in
-    let other : same_value value one ≡ false = is_false (same_value value one) (λ same. differs (sym ((same_value-Decides value one).0 same) ∙ sym is)) in
-    let later : position_from (same_value value) (i + 1) values ≡ Some (i + 1 + n) = place_own values (i + 1) n value (tail_apart (λ a b. a ≢ b) one values apart) at in
+    let other : same_value value one ≡ false = false_from_ne_true (same_value value one) (λ same. differs (sym ((same_value-Decides value one).0 same) ∙ sym is)) in
+    let later : position_from (same_value value) (i + 1) values ≡ Some (i + 1 + n) = place_own values (i + 1) n value (AllPairs-tail (λ a b. a ≢ b) one values apart) at in
     ap (λ (b : Bool). cond b (Some i) (position_from (same_value value) (i + 1) values)) other ∙ later ∙ ap Some (omega arith)
 
 -- ---- which attribute is found of a key
@@ -66,7 +57,7 @@ own_text text = (bytes_eq-Decides text text).1 refl
 
 none_with : (name : List ℕ) (key : Key) (o : Option AttrValue) → name ≢ key.name → list_any (is_of name) (valued key.name o) ≡ false
 none_with name key None apart = refl
-none_with name key (Some value) apart = ap (λ (b : Bool). b || false) (is_false (bytes_eq key.name name) (λ same. apart (sym ((bytes_eq-Decides key.name name).0 same))))
+none_with name key (Some value) apart = ap (λ (b : Bool). b || false) (false_from_ne_true (bytes_eq key.name name) (λ same. apart (sym ((bytes_eq-Decides key.name name).0 same))))
 
 none_at : (name : List ℕ) (key : Key) (entry : ℕ) → name ≢ key.name → list_any (is_of name) (named_at key.name key.values entry) ≡ false
 none_at name key zero apart = refl
@@ -130,10 +121,10 @@ all_found : (keys : List Key) (set : List ℕ) → AllPairs (λ key other. key.n
 all_found [] set apart full = tt
 all_found (key ∷ keys) [] apart full = absurd (true≢false (sym full))
 all_found (key ∷ keys) (entry ∷ set) apart full =
-    let others = head_apart (λ (k : Key) (o : Key). k.name ≢ o.name) key keys apart in
+    let others = AllPairs-head (λ (k : Key) (o : Key). k.name ≢ o.name) key keys apart in
     let parts = and_parts (is_key_entry key entry) (is_key_set keys set) full in (
       found_first key entry (named_by keys set) (none_by key.name keys set others),
-      behind key entry (named_by keys set) keys set others (all_found keys set (tail_apart (λ (k : Key) (o : Key). k.name ≢ o.name) key keys apart) parts.1),
+      behind key entry (named_by keys set) keys set others (all_found keys set (AllPairs-tail (λ (k : Key) (o : Key). k.name ≢ o.name) key keys apart) parts.1),
     )
 
 -- ---- entries
@@ -211,12 +202,12 @@ all_entries attrs (key ∷ keys) (entry ∷ set) (suc n) long apart full are =
 none_repeated : (keys : List Key) (set : List ℕ) → AllPairs (λ key other. key.name ≢ other.name) keys → has_repeated_key (named_by keys set) ≡ false
 none_repeated [] set apart = refl
 none_repeated (key ∷ keys) [] apart = refl
-none_repeated (key ∷ keys) (entry ∷ set) apart = at entry (none_repeated keys set (tail_apart (λ (k : Key) (o : Key). k.name ≢ o.name) key keys apart))
+none_repeated (key ∷ keys) (entry ∷ set) apart = at entry (none_repeated keys set (AllPairs-tail (λ (k : Key) (o : Key). k.name ≢ o.name) key keys apart))
   where
     with : (o : Option AttrValue) → has_repeated_key (named_by keys set) ≡ false → has_repeated_key (valued key.name o ++ named_by keys set) ≡ false
     with None rest = rest
     with (Some value) rest =
-        ap (λ (b : Bool). b || has_repeated_key (named_by keys set)) (none_by key.name keys set (head_apart (λ (k : Key) (o : Key). k.name ≢ o.name) key keys apart)) ∙ rest
+        ap (λ (b : Bool). b || has_repeated_key (named_by keys set)) (none_by key.name keys set (AllPairs-head (λ (k : Key) (o : Key). k.name ≢ o.name) key keys apart)) ∙ rest
 
     at : (e : ℕ) → has_repeated_key (named_by keys set) ≡ false → has_repeated_key (named_at key.name key.values e ++ named_by keys set) ≡ false
     at zero rest = rest

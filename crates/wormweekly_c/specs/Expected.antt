@@ -7,8 +7,8 @@ use Rattle.metric_contents.specs.Encoding.{Given}
 use Rattle.metric_contents.specs.KeySets.{is_key_set}
 use Rattle.metric_hosted.specs.declared.planned.HostedRecorder.{HostedRecorder}
 use Rattle.metric_hosted.specs.Hosts.{HostedValue, number_of}
+use Rattle.metric_meaning.specs.Meanings.{AskedKey, KeysMean, Means, Shape}
 use Rattle.metric_plan.specs.Plans.{IsPlan}
-use Rattle.wormweekly_c.specs.Meanings.{AskedKey, KeysMean, Means, Shape}
 use Rattle.wormweekly_c.specs.Ranks.{named_at, named_by}
 use Rattle.wormweekly_c.specs.Recordings.{admission, admission_key}
 

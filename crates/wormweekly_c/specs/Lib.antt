@@ -30,4 +30,3 @@ pub mod Budgets
 pub mod Ranks
 pub mod Expected
 pub mod Meanings
-pub mod Agreeing

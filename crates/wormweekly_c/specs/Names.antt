@@ -1,11 +1,11 @@
 -- The names that a plan declares, and the warnings that its config gets.
-use Rattle.std.specs.Prelude.{ℕ, ◌==◌, List, Option, None, option_map, option_and_then, slice_get}
+use Rattle.std.specs.Prelude.{ℕ, ◌==◌, List, Option, None, option_map, slice_get}
 use Rattle.std.specs.Prelude.{if◌then◌else◌}
 use Rattle.std.specs.List.{flat_map}
 use Rattle.metric_contents.specs.declared.contents.Contents.{Contents}
 use Rattle.metric_contents.specs.declared.contents.Instrument.{Instrument}
-use Rattle.metric_contents.specs.declared.contents.Meter.{Meter}
 use Rattle.metric_contents.specs.declared.contents.Recorder.{Recorder}
+use Rattle.metric_meaning.specs.Meanings.{meter_name}
 use Rattle.metric_lines.specs.Streams.{warning_text}
 use Rattle.metric_resolve.specs.Warnings.{warnings_of}
 use Rattle.metric_views.specs.declared.config.Reader.{Reader}
@@ -16,13 +16,6 @@ use Rattle.metric_plan.specs.Plans.{PlanValue}
 abbrev pub instrument_name : Contents → ℕ → Option (List ℕ)
 instrument_name contents number =
     option_map (λ (i : Instrument). i.name) (slice_get contents.instruments number)
-
--- that of its meter
-abbrev pub meter_name : Contents → ℕ → Option (List ℕ)
-meter_name contents number =
-    option_and_then
-    (λ (i : Instrument). option_map (λ (m : Meter). m.name) (slice_get contents.meters i.meter))
-    (slice_get contents.instruments number)
 
 -- that of the recorder of a number
 abbrev pub recorder_name : Contents → ℕ → Option (List ℕ)

@@ -2,7 +2,7 @@
 ghost use Rattle.std.specs.Prelude.{◌≡◌, ◌≢◌, option_map};
 ghost use Rattle.std.specs.Option.{MatchOption};
 ghost use Rattle.wormweekly_c.specs.Codes.{WhereHeld, reader_in, recorder_in};
-ghost use Rattle.wormweekly_c.specs.Names.{instrument_name, meter_name, name_of, reader_name, recorder_name};
+ghost use Rattle.wormweekly_c.specs.Names.{instrument_name, name_of, reader_name, recorder_name};
 ghost use Rattle.wormweekly_c.specs.Texts.{AnswersText};
 
 use crate::codes::NOT_OPEN;
@@ -10,6 +10,7 @@ use crate::handles::Handle;
 use crate::held::Held;
 use crate::texts::write_found;
 use metric_catalogue::Catalogue;
+use metric_meaning::meter_name;
 use metric_plan::Plan;
 use metric_views::Config;
 use std::alloc::Global;
@@ -92,14 +93,6 @@ fn instrument_name(catalogue: &Catalogue, number: usize) -> Option<&str>
 {
     let instrument = catalogue.instruments().get(number)?;
     Some(instrument.name.get().as_str())
-}
-
-pub(crate) fn meter_name(catalogue: &Catalogue, number: usize) -> Option<&str>
-    ensures { option_map (λ name. name.now) result ≡ meter_name catalogue.now number }
-{
-    let instrument = catalogue.instruments().get(number)?;
-    let meter = catalogue.meters().get(instrument.meter as usize)?;
-    Some(meter.name.as_str())
 }
 
 fn recorder_name(catalogue: &Catalogue, number: usize) -> Option<&str>

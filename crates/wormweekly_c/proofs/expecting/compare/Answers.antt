@@ -4,28 +4,18 @@ use Rattle.std.specs.Prelude.{is_some}
 use Rattle.std.proofs.lemmas.Bool.Decides.{nat_tests}
 use Rattle.std.proofs.lemmas.Option.{slice_get_read}
 use Rattle.metric_contents.specs.declared.contents.Instrument.{Instrument}
-use Rattle.wormweekly_c.proofs.MeaningLaws.{meant, not_meant}
 use Rattle.wormweekly_c.specs.Texts.{IsFront}
 use Rattle.wormweekly_c.proofs.expecting.compare.Goals as goal
 
 pub returns-in-None-clause-answer : goal.returns-in-None-clause-answer
-returns-in-None-clause-answer c =
-    let contents = c.args.catalogue.now in
-    let number = c.args.instrument in
-    let all = c.instruments.result.now in
-    let own = c.in-Some.own.now in
-    let there = c.in-Some.ensures.lookup in
-    let below : number < length all = grind (arith, nat_tests, there.0) in
-    let found : slice_get contents.instruments number ≡ Some own =
-    ap (λ (is : List Instrument). slice_get is number) (sym c.instruments.ensures.instruments) ∙ slice_get_read all (length all) number own refl below there.1 in
-    inl (inl (refl, meant contents number own c.args.asked.now found c.in-None.ensures))
+returns-in-None-clause-answer c = inl (inl (refl, c.in-None.ensures.means))
 
 pub returns-in-Ok-clause-answer : goal.returns-in-Ok-clause-answer
 returns-in-Ok-clause-answer c =
     let contents = c.args.catalogue.now in
     let number = c.args.instrument in
     let all = c.instruments.result.now in
-    let own = c.in-Some.own.now in
+    let own = c.in-Some._own.now in
     let there = c.in-Some.ensures.lookup in
     let below : number < length all = grind (arith, nat_tests, there.0) in
     let found : slice_get contents.instruments number ≡ Some own =
@@ -35,7 +25,7 @@ returns-in-Ok-clause-answer c =
       refl,
       record {
         there = ap is_some found;
-        other = not_meant contents number own c.args.asked.now found c.in-Some-first_difference.ensures;
+        other = c.in-Some-first_difference.ensures.means;
         told = record {
           text = c.in-Ok.line.items;
           told = c.in-Ok.ensures;

@@ -1,44 +1,43 @@
 -- The tests by which an instrument is compared decide what it means.
-use Rattle.std.proofs.Common.{◌≡◌, ℕ, ◌/◌, ◌%◌, Bool, true, false, ◌&&◌, List, [], ◌∷◌, length, take, Option, Some, None, refl, sym, ap, subst, ◌∙◌, Decides}
-use Rattle.std.specs.Prelude.{◌==◌, All, if◌then◌else◌, map, not, slice_get}
+use Rattle.std.proofs.Common.{◌≡◌, ◌∙◌, ℕ, ◌/◌, ◌%◌, Bool, true, false, ◌&&◌, List, [], ◌∷◌, length, take, Option, Some, None, refl, sym, ap, subst, Decides}
+use Rattle.std.specs.Prelude.{◌==◌, MatchOption, if◌then◌else◌, is_some, map, not, slice_get}
 use Rattle.std.specs.List.{AllByRecursion}
 use Rattle.std.specs.Str.{bytes_eq}
-use Rattle.std.proofs.lemmas.Bool.{true≢false}
-use Rattle.std.proofs.lemmas.Bool.Decides.{Decides-and, Decides-at, Decides-like, Decides-eqb}
+use Rattle.std.proofs.lemmas.Bool.{not-false, true≢false}
+use Rattle.std.proofs.lemmas.Bool.Decides.{Decides-and, Decides-at, Decides-like}
 use Rattle.std.proofs.lemmas.List.Elements.{All-from_recursion, recursion_from_All}
 use Rattle.std.proofs.lemmas.Slice.Eq.{bytes_eq-Decides}
 use Rattle.metric_contents.specs.Attributes.{given_by}
-use Rattle.metric_contents.specs.Encoding.{Given, is_of}
+use Rattle.metric_contents.specs.Encoding.{Given}
 use Rattle.metric_contents.specs.Places.{same_value}
 use Rattle.metric_contents.specs.SameValues.{same_value-Decides}
 use Rattle.metric_contents.specs.declared.contents.Contents.{Contents}
 use Rattle.metric_contents.specs.declared.contents.Instrument.{Instrument}
 use Rattle.metric_contents.specs.declared.contents.Key.{Key}
 use Rattle.metric_names.specs.declared.value.AttrValue.{AttrValue}
-use Rattle.wormweekly_c.specs.Agreeing.{after_key, after_values, heads_agree, is_called, is_same, is_there_and, keys_agree, shape_by}
-use Rattle.wormweekly_c.specs.Meanings.{AskedKey, KeyMeans, KeysMean, Means, asked_keys, with_value}
-use Rattle.wormweekly_c.specs.Names.{meter_name}
-use Rattle.wormweekly_c.specs.Walking.{kind_number}
-use Rattle.wormweekly_c.specs.declared.expecting.Declared.{Declared}
+use Rattle.metric_meaning.specs.Agreeing.{HasHead, after_values, is_same, is_there_and, keys_agree, shape_by}
+use Rattle.metric_meaning.specs.Meanings.{AskedKey, KeysMean, Means, asked_keys, meter_name, with_value}
+use Rattle.metric_meaning.specs.declared.difference.Difference.{Difference}
+use Rattle.metric_meaning.specs.declared.expected.Expected.{Expected}
 
 -- the values of the name that stand first, and what follows them
-abbrev front_values : List ℕ → List Given → List AttrValue
+abbrev pub front_values : List ℕ → List Given → List AttrValue
 front_values name [] = []
 front_values name (given ∷ others) = if bytes_eq given.0 name then given.1 ∷ front_values name others else []
 
-abbrev after_front : List ℕ → List Given → List Given
+abbrev pub after_front : List ℕ → List Given → List Given
 after_front name [] = []
 after_front name (given ∷ others) = if bytes_eq given.0 name then after_front name others else given ∷ others
 
-abbrev keyed : List ℕ → List AttrValue → AskedKey
+abbrev pub keyed : List ℕ → List AttrValue → AskedKey
 keyed name values = record { name = name; values = values }
 
 -- the key that stands first
-abbrev first_key : Given → List Given → AskedKey
+abbrev pub first_key : Given → List Given → AskedKey
 first_key given others = keyed given.0 (given.1 ∷ front_values given.0 others)
 
 -- its values are one key, and what follows them are the others
-groups : (given : Given) (others : List Given) → asked_keys (given ∷ others) ≡ first_key given others ∷ asked_keys (after_front given.0 others)
+pub groups : (given : Given) (others : List Given) → asked_keys (given ∷ others) ≡ first_key given others ∷ asked_keys (after_front given.0 others)
 groups given [] = refl
 groups given (o ∷ os) =
     ap (with_value given) (groups o os) ∙ by (bytes_eq o.0 given.0) refl (groups o os)
@@ -190,74 +189,27 @@ keys_decide (key ∷ keys) optional (g ∷ gs) =
     (Decides-and b2 (b3 && b4) (same-Decides key.optional (optional % 2 == 1))
     (Decides-and b3 b4 (begins-Decides key.values values) (keys_decide keys (optional / 2) left)))))
 
-called : (name : List ℕ) (own : Option (List ℕ)) → Decides (is_called name own) (own ≡ Some name)
-called name None = (λ e. absurd (true≢false (sym e)), λ e. absurd cc)
-called name (Some own) = (λ e. ap (λ (n : List ℕ). Some n) ((bytes_eq-Decides own name).0 e), λ e. (bytes_eq-Decides own name).1 (inside e))
-  where
-    inside : Some own ≡ Some name → own ≡ name
-    inside e = cc
-
--- what the tests of an instrument decide
-abbrev Parts : Contents → ℕ → Instrument → Declared → Type 0
-Parts contents number own asked =
-    ((meter_name contents number ≡ Some asked.meter.now) × ((own.name ≡ asked.name.now) × ((kind_number own.kind ≡ asked.kind) × (own.unit ≡ asked.unit.now))))
-    × KeysMean asked.optional (asked_keys (map given_by asked.keys.now)) own.keys
-
-all_mean : (contents : Contents) (number : ℕ) (own : Instrument) (asked : Declared) → slice_get contents.instruments number ≡ Some own
-    → Parts contents number own asked → Means contents number (shape_by asked)
-all_mean contents number own asked found h =
-    record { own = own; is = found; meter = h.0.0; name = h.0.1.0; kind = h.0.1.1.0; unit = h.0.1.1.1; keys = h.1 }
-
-all_parts : (contents : Contents) (number : ℕ) (own : Instrument) (asked : Declared) → slice_get contents.instruments number ≡ Some own
-    → Means contents number (shape_by asked) → Parts contents number own asked
-all_parts contents number own asked found m =
-    let is : m.own ≡ own = inside m.own (sym m.is ∙ found) in (
-      (
-        m.meter,
-        (
-          subst (λ (i : Instrument). i.name ≡ asked.name.now) is m.name,
-          (subst (λ (i : Instrument). kind_number i.kind ≡ asked.kind) is m.kind, subst (λ (i : Instrument). i.unit ≡ asked.unit.now) is m.unit),
-        ),
-      ),
-      subst (λ (i : Instrument). KeysMean asked.optional (asked_keys (map given_by asked.keys.now)) i.keys) is m.keys,
-    )
+-- an instrument of the right head means it exactly where no difference was found in its keys
+pub means_by : (contents : Contents) (number : ℕ) (own : Instrument) (expected : Expected) (found : Option Difference)
+    → slice_get contents.instruments number ≡ Some own → HasHead (meter_name contents number) own (shape_by expected)
+    → is_some found ≡ not (keys_agree expected.optional own.keys (map given_by expected.keys.now))
+    → MatchOption found (Means contents number (shape_by expected)) (λ difference. Means contents number (shape_by expected) → ⊥)
+means_by contents number own expected None is head none =
+    let given : List Given = map given_by expected.keys.now in
+    let agree : keys_agree expected.optional own.keys given ≡ true = not-false (keys_agree expected.optional own.keys given) (sym none) in
+    record {
+      own = own;
+      is = is;
+      meter = head.named;
+      name = head.has.name;
+      kind = head.has.kind;
+      unit = head.has.unit;
+      keys = (keys_decide own.keys expected.optional given).0 agree;
+    }
+means_by contents number own expected (Some difference) is head some = λ means.
+    let given : List Given = map given_by expected.keys.now in
+    let keys = subst (λ (i : Instrument). KeysMean expected.optional (asked_keys given) i.keys) (inside means.own (sym means.is ∙ is)) means.keys in
+    true≢false (some ∙ ap not ((keys_decide own.keys expected.optional given).1 keys))
   where
     inside : (other : Instrument) → Some other ≡ Some own → other ≡ own
     inside other e = cc
-
--- an instrument means what was read exactly where both tests pass
-means_decides : (contents : Contents) (number : ℕ) (own : Instrument) (asked : Declared) → slice_get contents.instruments number ≡ Some own
-    → Decides (heads_agree contents number own asked && keys_agree asked.optional own.keys (map given_by asked.keys.now)) (Means contents number (shape_by asked))
-means_decides contents number own asked found =
-    let m = is_called asked.meter.now (meter_name contents number) in
-    let n = bytes_eq own.name asked.name.now in
-    let k = kind_number own.kind == asked.kind in
-    let u = bytes_eq own.unit asked.unit.now in
-    let keys = keys_agree asked.optional own.keys (map given_by asked.keys.now) in
-    Decides-like (heads_agree contents number own asked && keys) (all_mean contents number own asked found) (all_parts contents number own asked found)
-    (Decides-and (heads_agree contents number own asked) keys
-    (Decides-and m (n && (k && u)) (called asked.meter.now (meter_name contents number))
-    (Decides-and n (k && u) (bytes_eq-Decides own.name asked.name.now)
-    (Decides-and k u (Decides-eqb (kind_number own.kind) asked.kind) (bytes_eq-Decides own.unit asked.unit.now))))
-    (keys_decide own.keys asked.optional (map given_by asked.keys.now)))
-
-abbrev passes : Contents → ℕ → Instrument → Declared → Bool
-passes contents number own asked = heads_agree contents number own asked && keys_agree asked.optional own.keys (map given_by asked.keys.now)
-
--- where no difference was found, the instrument means it
-pub meant : (contents : Contents) (number : ℕ) (own : Instrument) (asked : Declared) → slice_get contents.instruments number ≡ Some own
-    → false ≡ not (passes contents number own asked) → Means contents number (shape_by asked)
-meant contents number own asked found none = (means_decides contents number own asked found).0 (by (passes contents number own asked) none)
-  where
-    by : (b : Bool) → false ≡ not b → b ≡ true
-    by true is = refl
-    by false is = absurd (true≢false (sym is))
-
--- where one was found, it means something else
-pub not_meant : (contents : Contents) (number : ℕ) (own : Instrument) (asked : Declared) → slice_get contents.instruments number ≡ Some own
-    → true ≡ not (passes contents number own asked) → Means contents number (shape_by asked) → ⊥
-not_meant contents number own asked found some means = by (passes contents number own asked) some ((means_decides contents number own asked found).1 means)
-  where
-    by : (b : Bool) → true ≡ not b → b ≡ true → ⊥
-    by true is e = true≢false is
-    by false is e = true≢false (sym e)

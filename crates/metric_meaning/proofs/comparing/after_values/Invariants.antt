@@ -1,8 +1,8 @@
 -- what is left of the values and of the attributes comes to the same as all of them
 use Rattle.std.proofs.Common.{◌≡◌, ◌≤◌, length, map}
 use Rattle.metric_contents.specs.Attributes.{given_by}
-use Rattle.wormweekly_c.specs.Agreeing.{after_values}
-use Rattle.wormweekly_c.proofs.expecting.after_values.Given as goal
+use Rattle.metric_meaning.specs.Agreeing.{after_values}
+use Rattle.metric_meaning.proofs.comparing.after_values.Given as goal
 
 abbrev pub invariant-loop-rest : goal.invariant-loop-rest
 invariant-loop-rest l = record {

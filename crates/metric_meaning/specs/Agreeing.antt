@@ -1,18 +1,43 @@
--- The tests by which an instrument is compared with what a host was made for.
-use Rattle.std.specs.Prelude.{ℕ, ◌/◌, ◌%◌, ◌==◌, Bool, true, false, not, ◌&&◌, List, [], ◌∷◌}
+-- The tests by which an instrument is compared with what a program was made for.
+use Rattle.std.specs.Prelude.{◌≡◌, ℕ, ◌/◌, ◌%◌, ◌==◌, Bool, true, false, not, ◌&&◌, List, [], ◌∷◌}
 use Rattle.std.specs.Prelude.{map, Option, Some, None, if◌then◌else◌}
-use Rattle.std.specs.Str.{bytes_eq}
 use Rattle.metric_contents.specs.Attributes.{given_by}
 use Rattle.metric_contents.specs.Encoding.{Given, is_of}
 use Rattle.metric_contents.specs.Places.{same_value}
-use Rattle.metric_contents.specs.declared.contents.Contents.{Contents}
 use Rattle.metric_contents.specs.declared.contents.Instrument.{Instrument}
 use Rattle.metric_contents.specs.declared.contents.Key.{Key}
 use Rattle.metric_names.specs.declared.value.AttrValue.{AttrValue}
-use Rattle.wormweekly_c.specs.Meanings.{Shape, asked_keys}
-use Rattle.wormweekly_c.specs.Names.{meter_name}
-use Rattle.wormweekly_c.specs.Walking.{kind_number}
-use Rattle.wormweekly_c.specs.declared.expecting.Declared.{Declared}
+use Rattle.metric_meaning.specs.Meanings.{Shape, asked_keys}
+use Rattle.metric_meaning.specs.declared.difference.Difference.{Difference}
+use Rattle.metric_meaning.specs.declared.difference.Difference.TheVariants.{NoInstrument}
+use Rattle.metric_meaning.specs.declared.expected.Expected.{Expected}
+
+-- the instrument that a program was made for
+abbrev pub shape_by : Expected → Shape
+shape_by expected = record {
+  meter = expected.meter.now;
+  name = expected.name.now;
+  kind = expected.kind;
+  unit = expected.unit.now;
+  keys = asked_keys (map given_by expected.keys.now);
+  optional = expected.optional;
+}
+
+-- what differs is that there is no instrument
+abbrev pub is_missing : Difference → Bool
+is_missing NoInstrument = true
+is_missing other = false
+
+-- An instrument has this name, kind and unit.
+pub record HasOwn (own : Instrument) (shape : Shape) : Type 0 where
+  pub name : own.name ≡ shape.name
+  pub kind : own.kind ≡ shape.kind
+  pub unit : own.unit ≡ shape.unit
+
+-- The same, and its meter has this name.
+pub record HasHead (meter : Option (List ℕ)) (own : Instrument) (shape : Shape) : Type 0 where
+  pub named : meter ≡ Some shape.meter
+  pub has : HasOwn own shape
 
 -- what is left after the values of a key; none where the key does not begin with them
 abbrev pub after_values : List ℕ → List AttrValue → List Given → Option (List Given)
@@ -46,25 +71,3 @@ keys_agree optional [] (given ∷ others) = false
 keys_agree optional (key ∷ keys) given =
     is_there_and (λ rest. keys_agree (optional / 2) keys rest)
     (after_key (optional % 2 == 1) key given)
-
--- whether a name is there, and is this one
-abbrev pub is_called : List ℕ → Option (List ℕ) → Bool
-is_called name None = false
-is_called name (Some own) = bytes_eq own name
-
--- whether the instrument of a number agrees with what was read in all but its keys
-abbrev pub heads_agree : Contents → ℕ → Instrument → Declared → Bool
-heads_agree contents number own asked =
-    is_called asked.meter.now (meter_name contents number) && (bytes_eq own.name asked.name.now
-    && (kind_number own.kind == asked.kind && bytes_eq own.unit asked.unit.now))
-
--- what was read as the instrument that a host was made for
-abbrev pub shape_by : Declared → Shape
-shape_by asked = record {
-  meter = asked.meter.now;
-  name = asked.name.now;
-  kind = asked.kind;
-  unit = asked.unit.now;
-  keys = asked_keys (map given_by asked.keys.now);
-  optional = asked.optional;
-}

@@ -1,0 +1,3 @@
+pub mod Apart
+mod MeaningLaws
+pub mod MadeLaws
