@@ -3,3 +3,4 @@ mod Got
 mod KindNames
 pub mod Lists
 mod Told
+mod ProgramLaws

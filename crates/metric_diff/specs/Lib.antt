@@ -7,3 +7,4 @@ pub mod Kinds
 pub mod Known
 pub mod Parts
 pub mod Placed
+pub mod Programs

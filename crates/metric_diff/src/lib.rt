@@ -4,6 +4,7 @@
 //! `specs/Known.antt` says what a stream is known by in both, and `specs/Changes.antt` what the changes are.
 #![tactic(auto)]
 
+mod asked;
 mod attributes;
 mod budgets;
 mod change;
@@ -19,6 +20,7 @@ mod names;
 mod numbers;
 mod parts;
 mod places;
+mod programs;
 mod readers;
 mod side;
 mod streams;
@@ -26,4 +28,5 @@ mod streams;
 pub use change::{Change, InstrumentPart, StreamPart};
 pub use compared::changes;
 pub use kinds::is_change;
+pub use programs::{Programs, programs_of};
 pub use side::Side;

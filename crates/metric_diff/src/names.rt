@@ -80,7 +80,8 @@ fn collision_names(alloc: Global, old: Side<'_>, side: Side<'_>) -> Result<Items
     Ok(names)
 }
 
-fn repeated_names(
+/// Each name that an earlier one is, too, and nothing for each other one.
+pub(crate) fn repeated_names(
     alloc: Global,
     streams: &[Text],
     places: &Places,
@@ -250,7 +251,11 @@ fn instrument_name(
     known_text(alloc, 0, meter, instrument.name.get())
 }
 
-fn recorder_names(alloc: Global, recorders: &[Recorder]) -> Result<Items<Text>, AllocError>
+/// The names of recorders.
+pub(crate) fn recorder_names(
+    alloc: Global,
+    recorders: &[Recorder],
+) -> Result<Items<Text>, AllocError>
     ensures { IfOk result (λ names. names ≡ map (λ recorder. recorder.name) recorders.now) }
 {
     let mut names = Items::new(alloc);

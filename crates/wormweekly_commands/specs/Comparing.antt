@@ -7,6 +7,7 @@ use Rattle.metric_resolve.specs.Resolved.{streams_of}
 use Rattle.metric_diff.specs.declared.change.Change.{Change}
 use Rattle.metric_diff.specs.Changes.{Plan, changes_of, plan}
 use Rattle.metric_diff.specs.Kinds.{kind_of}
+use Rattle.metric_diff.specs.Programs.{AnswersPrograms}
 use Rattle.metric_command_lines.specs.declared.wormweekly.request.Request.{Request}
 use Rattle.metric_kit_commands.specs.Claims.{IsClaimFault}
 use Rattle.metric_kit_commands.specs.Declarations.{IsDeclaredFault}
@@ -37,12 +38,14 @@ plan_of rooms =
     (streams_of rooms.declared.catalogue rooms.declared.config)) rooms.rooms
 
 -- # what a comparison answers (profile) [IsComparison, diff_status]
--- The changes from what the old files declare to what the new ones do, and whether the certificate
--- holds for the new ones.
+-- The changes from what the old files declare to what the new ones do, whether the certificate holds
+-- for the new ones, and what becomes of programs that were made of the old catalogue.
 pub record IsComparison (old_parts parts : Parts) (comparison : Comparison) : Type 0 where
   pub old : AreRooms old_parts comparison.old
   pub new : AreRooms parts comparison.new
   pub claim : IsClaim parts comparison.claim
+  pub programs : AnswersPrograms comparison.old.declared.catalogue
+      comparison.new.declared.catalogue comparison.programs
   pub changes : comparison.changes ≡ changes_of (plan_of comparison.old) (plan_of comparison.new)
 
 abbrev pub IsCompared : Texts → Comparison → Type 0

@@ -4,7 +4,7 @@ use crate::change_cells::{after_cell, before_cell};
 use crate::comparing::{Claim, Comparison};
 use crate::rooms::Rooms;
 use crate::rows::{instrument_name, meter_name, reader_name};
-use metric_diff::Change;
+use metric_diff::{Change, Programs};
 use metric_kit_commands::KitFault;
 use metric_sheet::{Cell, Row, Sheet};
 use metric_views::Stream;
@@ -14,7 +14,8 @@ static TITLES: [&str; 8] = [
     "change", "breaks", "reader", "meter", "name", "what", "before", "after",
 ];
 
-/// Changes of a comparison, then the queries that they break, and last whether its certificate holds.
+/// Changes of a comparison, then the queries that they break, then what becomes of programs that were made of the old
+/// catalogue, and last whether the certificate holds.
 #[derive(Clone, Copy)]
 pub(crate) struct ChangeSheet<'a> {
     pub comparison: &'a Comparison,
@@ -29,21 +30,30 @@ impl Sheet for ChangeSheet<'_> {
 
     fn rows(&self) -> usize {
         let rows = self.changes.len().saturating_add(self.broken.len());
-        match self.comparison.claim {
-            Claim::Absent => rows,
-            _ => rows.saturating_add(1),
-        }
+        let has_claim = !matches!(self.comparison.claim, Claim::Absent);
+        rows.saturating_add(usize::from(self.tells_programs()))
+            .saturating_add(usize::from(has_claim))
     }
 
     fn row(&self, alloc: Global, number: usize) -> Result<Vec<Cell>, AllocError> {
         let mut row = Row::new(alloc);
-        let broken = self.broken.get(number.wrapping_sub(self.changes.len()));
-        match (self.changes.get(number), broken) {
+        let behind = number.wrapping_sub(self.changes.len());
+        match (self.changes.get(number), self.broken.get(behind)) {
             (Some(change), _) => put_change(&mut row, self.comparison, change),
             (None, Some(broken)) => put_broken(&mut row, self.comparison, broken),
+            (None, None) if self.tells_programs() && behind == self.broken.len() => {
+                put_programs(&mut row, self.comparison);
+            }
             (None, None) => put_claim(&mut row, &self.comparison.claim),
         }
         row.cells()
+    }
+}
+
+impl ChangeSheet<'_> {
+    // Where nothing changes, nothing is told of programs that go on.
+    fn tells_programs(&self) -> bool {
+        !self.changes.is_empty() || !matches!(self.comparison.programs, Programs::GoOn)
     }
 }
 
@@ -173,6 +183,39 @@ fn recorder_name(side: &Rooms, number: usize) -> &str {
     match side.declared.catalogue.recorders().get(number) {
         Some(recorder) => recorder.name.as_str(),
         None => "",
+    }
+}
+
+// What becomes of programs that were made of the old catalogue.
+fn put_programs(row: &mut Row, comparison: &Comparison) {
+    row.text("programs");
+    row.flag(false);
+    match &comparison.programs {
+        Programs::GoOn => {
+            put_nothings(row);
+            put_going(row, "go on", None);
+        }
+        Programs::GoOnButInC => {
+            put_nothings(row);
+            put_going(row, "go on", Some("but for those in C: numbers differ"));
+        }
+        Programs::OtherInstrument { old, difference } => {
+            put_instrument(row, &comparison.old, *old);
+            put_going(row, "made again", Some(difference.as_str()));
+        }
+        Programs::NoRecorder { old } => {
+            put_recorder(row, &comparison.old, *old);
+            put_going(row, "made again", Some("there is no such recorder"));
+        }
+    }
+}
+
+fn put_going(row: &mut Row, what: &str, why: Option<&str>) {
+    row.text(what);
+    row.nothing();
+    match why {
+        Some(why) => row.text(why),
+        None => row.nothing(),
     }
 }
 

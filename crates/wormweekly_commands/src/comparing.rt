@@ -16,7 +16,7 @@ use crate::parts::Texts;
 use crate::rooms::{Rooms, rooms_of};
 use crate::series::all_series;
 use metric_base::{Items, Text};
-use metric_diff::{Change, Side, changes};
+use metric_diff::{Change, Programs, Side, changes, programs_of};
 use metric_kit_commands::{KitFault, certified_plan};
 use metric_parts::Parts;
 use metric_resolve::{StreamList, resolve_streams};
@@ -42,6 +42,7 @@ pub(crate) struct Comparison {
     pub new_streams: StreamList,
     pub new_series: Items<u128>,
     pub claim: Claim,
+    pub programs: Programs,
     pub changes: Items<Change>,
 }
 
@@ -55,6 +56,7 @@ impl Drop for Comparison {
             new_streams: _new_streams,
             new_series: _new_series,
             claim: _claim,
+            programs: _programs,
             changes: _changes,
         } = self;
     }
@@ -96,6 +98,7 @@ pub(crate) fn compared(
     let old = old_rooms(alloc, old_parts)?;
     let new = rooms_of(alloc, parts)?;
     let claim = claim_of(alloc, parts)?;
+    let programs = programs_of(alloc, &old.declared.catalogue, &new.declared.catalogue)?;
     let old_streams = resolve_streams(alloc, &old.declared.catalogue, &old.declared.config)?;
     let new_streams = resolve_streams(alloc, &new.declared.catalogue, &new.declared.config)?;
     let old_series = all_series(alloc, &old.declared.catalogue, old_streams.as_slice())?;
@@ -111,6 +114,7 @@ pub(crate) fn compared(
         new_streams,
         new_series,
         claim,
+        programs,
         changes,
     })
 }

@@ -67,7 +67,7 @@ fn words_of(misuse: Misuse) -> &'static str {
         Misuse::Outlet =>
             "error: '--for' knows 'prometheus' and 'otlp' alone, and behind '=' a reader\n",
         Misuse::Form => "error: '--as' knows no such form; try 'wormweekly replay --help'\n",
-        Misuse::Language => "error: '--for' is to be 'rust', 'go', 'python' or 'c'\n",
+        Misuse::Language => "error: '--for' is to be 'rust', 'go', 'python', 'c' or 'rattle'\n",
         Misuse::Audit => "error: '--audit' audits replies, and with '--as' none are printed\n",
         Misuse::Resource => "error: '--resource' belongs to '--as'\n",
         Misuse::Reader => "error: '--reader' belongs to '--as prometheus' and the other pages\n",

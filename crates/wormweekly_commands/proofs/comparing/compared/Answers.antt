@@ -16,6 +16,7 @@ returns-clause-ok c =
       old = c.in_ok-old.ensures.ok;
       new = c.in_ok-new.ensures.ok;
       claim = c.in_ok-claim.ensures.ok;
+      programs = c.in_ok-programs.ensures;
       changes =
           c.in_ok-changes.ensures.exact
           ∙ same_changes _ _ _ _
