@@ -1,1 +1,1 @@
-mod Differing
+pub mod Places

@@ -4,7 +4,7 @@ use crate::naming::{Shape, Style};
 use crate::quoting::Quotes;
 
 /// C.
-pub(crate) static C: Language = Language {
+pub static C: Language = Language {
     own: &[
         "BOUND_H",
         "BOUND_INSTRUMENTS",
@@ -165,6 +165,8 @@ const HEAD: &str =
 
 #include "wormweekly.h"
 
+#include <string.h>
+
 #ifdef __cplusplus
 extern "C" {
 #endif
@@ -202,6 +204,17 @@ $!least$
 $#value$
 /* $said_value$ */
 static const bound_$type$ BOUND_$TYPE$_$value$ = { $rank$ };
+$/$
+$?texts$
+
+/* The value of this text, else none. */
+static inline bound_$type$ bound_$type$_of(const char *text, size_t length) {
+    bound_$type$ own = { 0 };
+$#value$
+    if (length == $bytes$ && memcmp(text, $text$, $bytes$) == 0) own.rank = $rank$;
+$/$
+    return own;
+}
 $/$
 $/$
 $/$

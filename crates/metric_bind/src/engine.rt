@@ -82,7 +82,7 @@ fn first_of(rows: &[Row], row: usize, list: &str) -> Option<usize> {
     if list == "link" {
         link_of(rows, row)
     } else {
-        child_from(rows, row, list, row)
+        child_from(rows, row, list, row.saturating_add(1))
     }
 }
 

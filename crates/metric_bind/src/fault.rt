@@ -15,13 +15,6 @@ pub enum BindFault {
         /// What has it, too.
         second: Text,
     },
-    /// Two meters have one name.
-    Meters {
-        /// The number of the first.
-        first: usize,
-        /// The number of the second.
-        second: usize,
-    },
     /// Out of memory.
     Memory,
 }
@@ -45,9 +38,6 @@ impl fmt::Display for BindFault {
                 first,
                 second,
             } => write!(f, "{first} and {second} come to one name, {name}"),
-            BindFault::Meters { first, second } => {
-                write!(f, "meters {first} and {second} have one name")
-            }
             BindFault::Memory => f.write_str("out of memory"),
         }
     }

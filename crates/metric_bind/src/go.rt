@@ -4,7 +4,7 @@ use crate::naming::{Shape, Style};
 use crate::quoting::Quotes;
 
 /// Go.
-pub(crate) static GO: Language = Language {
+pub static GO: Language = Language {
     own: &[],
     types: Names {
         style: Style {
@@ -148,7 +148,7 @@ $t$// On is the instrument itself.
 $t$On *w.Instrument
 }
 
-// $?adds$Add$/$$!adds$Record$/$ makes a recording. Where it is refused, nothing is counted.
+// $?adds$Add$/$$!adds$Record$/$ makes a recording. Where it is refused, nothing is counted. A nil seat is any recorder that is free.
 func (own *on_$meter$_$on$) $?adds$Add$/$$!adds$Record$/$(seat *w.Recorder$#key$, $key$ $?yes$$?may$$of$$/$$!may$bool$/$$/$$!yes$$of$$/$$/$, value int64) error {
 $t$return seat.AddSet(own.On, [8]uint16{$#key$$!first$, $/$$?yes$$?may$$key$.rank$/$$!may$flagOf($key$, $yes$, $no$)$/$$/$$!yes$$key$.rank$/$$/$$rest$}, value)
 }

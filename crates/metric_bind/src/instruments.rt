@@ -1,6 +1,6 @@
 //! Meters, their instruments, and the keys of each.
 use crate::drafting::{Draft, names_of_texts, number_text, put_text, text_at};
-use crate::key_types::{KeyType, type_of};
+use crate::key_types::{KeyType, is_long, type_of};
 use crate::quoting::said;
 use crate::tree::{Row, text_of};
 use crate::values::put_flags;
@@ -16,7 +16,7 @@ pub(crate) struct Typed<'t, 'c> {
     pub numbers: &'t [usize],
 }
 
-/// Adds the meters with all that they have.
+/// Adds the meters that have instruments, with all that they have.
 pub(crate) fn add_meters(
     alloc: Global,
     draft: &mut Draft,
@@ -31,9 +31,11 @@ pub(crate) fn add_meters(
     let language = draft.language;
     let names = names_of_texts(alloc, texts.as_slice(), language.meters)?;
     for (number, meter) in meters.iter().enumerate() {
-        let name = text_at(names.as_slice(), number);
-        let above = add_meter(alloc, draft, meter.name.as_str(), name)?;
-        add_instruments(alloc, draft, above, number, instruments, typed)?;
+        if instruments.iter().any(|own| own.meter as usize == number) {
+            let name = text_at(names.as_slice(), number);
+            let above = add_meter(alloc, draft, number, meter.name.as_str(), name)?;
+            add_instruments(alloc, draft, above, number, instruments, typed)?;
+        }
     }
     Ok(())
 }
@@ -41,6 +43,7 @@ pub(crate) fn add_meters(
 fn add_meter(
     alloc: Global,
     draft: &mut Draft,
+    number: usize,
     text: &str,
     name: &str,
 ) -> Result<usize, AllocError> {
@@ -48,7 +51,7 @@ fn add_meter(
     row.put("meter", String::from_str(alloc, name));
     row.put("meter_bytes", number_text(alloc, text.len()));
     put_text(alloc, draft, &mut row, ["quoted_meter", "said_meter"], text);
-    let whose = format!(in alloc; "the meter {text:?}")?;
+    let whose = format!(in alloc; "meter {number} {text:?}")?;
     let language = draft.language;
     draft.add_named(alloc, row, language.meters.whole, whose.as_str())
 }
@@ -117,6 +120,8 @@ fn instrument_row(alloc: Global, draft: &Draft, above: usize, instrument: &Instr
     row.put("unit_bytes", number_text(alloc, unit.len()));
     let keys = instrument.keys.as_slice();
     row.put_if(alloc, "has_keys", !keys.is_empty());
+    row.put_if(alloc, "is_long", keys.iter().any(is_long));
+    row.put("total", number_text(alloc, total_of(keys)));
     row.put("bits", format!(in alloc; "{}", bits_of(keys)));
     let rest = *RESTS.get(keys.len()).unwrap_or(&"");
     row.put("rest", String::from_str(alloc, rest));
@@ -154,6 +159,15 @@ fn put_kind(alloc: Global, row: &mut Row, kind: Kind) {
     row.put("spoken", String::from_str(alloc, spoken));
     let adds = matches!(kind, Kind::Counter | Kind::UpDownCounter);
     row.put_if(alloc, "adds", adds);
+}
+
+// How many values the keys have.
+fn total_of(keys: &[Key]) -> usize {
+    let mut total = 0usize;
+    for key in keys {
+        total = total.saturating_add(key.values.as_slice().len());
+    }
+    total
 }
 
 // A bit for each key that may be left out.

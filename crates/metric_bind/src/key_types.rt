@@ -1,4 +1,5 @@
 //! The types of keys: a key of one name with the same values in the same order is one type, wherever it stands.
+use crate::naming::is_shared;
 use metric_contents::{Instrument, Key, Meter};
 use metric_names::AttrValue;
 use std::alloc::{AllocError, Global};
@@ -49,44 +50,55 @@ fn is_same(key: &Key, other: &Key) -> bool {
     key.name.as_str() == other.name.as_str() && key.values.as_slice() == other.values.as_slice()
 }
 
-/// What a type is called: by the name of its key; where another type has that, by its instrument, too, and by its meter
-/// where another meter has an instrument of that name. Fails only when out of memory.
-pub(crate) fn label_of(
+/// What each type is called: by the name of its key; where another type has that, by its instrument, too, and by its
+/// meter where another meter has an instrument of that name. Fails only when out of memory.
+pub(crate) fn labels_of(
     alloc: Global,
     types: &[KeyType<'_>],
-    own: KeyType<'_>,
     instruments: &[Instrument],
     meters: &[Meter],
-) -> Result<String, AllocError> {
-    let key = own.key.name.as_str();
-    let is_alone = types
+) -> Result<Vec<String>, AllocError> {
+    let mut keys: Vec<&str> = types
         .iter()
-        .filter(|other| other.key.name.as_str() == key)
-        .count()
-        < 2;
-    match instruments.get(own.instrument) {
-        Some(instrument) if !is_alone => label_in(alloc, key, instrument, instruments, meters),
-        _ => String::from_str(alloc, key),
+        .map(|own| own.key.name.as_str())
+        .collect(alloc)?;
+    keys.sort_unstable();
+    let mut names: Vec<&str> = instruments
+        .iter()
+        .map(|own| own.name.get().as_str())
+        .collect(alloc)?;
+    names.sort_unstable();
+    let mut labels = Vec::new(alloc);
+    for own in types {
+        let key = own.key.name.as_str();
+        let label = match instruments.get(own.instrument) {
+            Some(instrument) if is_shared(key, &keys) => {
+                label_in(alloc, key, instrument, &names, meters)
+            }
+            _ => String::from_str(alloc, key),
+        };
+        labels.push(label?)?;
     }
+    Ok(labels)
 }
 
 fn label_in(
     alloc: Global,
     key: &str,
     instrument: &Instrument,
-    instruments: &[Instrument],
+    names: &[&str],
     meters: &[Meter],
 ) -> Result<String, AllocError> {
     let name = instrument.name.get().as_str();
-    let is_alone = instruments
-        .iter()
-        .filter(|other| other.name.get().as_str() == name)
-        .count()
-        < 2;
     match meters.get(instrument.meter as usize) {
-        Some(meter) if !is_alone => format!(in alloc; "{} {name} {key}", meter.name),
+        Some(meter) if is_shared(name, names) => format!(in alloc; "{} {name} {key}", meter.name),
         _ => format!(in alloc; "{name} {key}"),
     }
+}
+
+/// Whether a key has more values than one list of code should.
+pub(crate) fn is_long(key: &Key) -> bool {
+    key.values.as_slice().len() > 64
 }
 
 /// Whether the values are the two flags.

@@ -11,27 +11,27 @@ pub(crate) struct Names {
     pub whole: &'static [&'static str],
 }
 
-/// A language: its names, its quotes, and the templates of a file.
+/// A language that code is made for: its names, its quotes, and the templates of a file.
 #[derive(Clone, Copy, Drop)]
-pub(crate) struct Language {
+pub struct Language {
     /// The names that each file has.
-    pub own: &'static [&'static str],
+    pub(crate) own: &'static [&'static str],
     /// Those of the types of keys.
-    pub types: Names,
+    pub(crate) types: Names,
     /// Those of values.
-    pub values: Names,
+    pub(crate) values: Names,
     /// Those of meters.
-    pub meters: Names,
+    pub(crate) meters: Names,
     /// Those of instruments.
-    pub instruments: Names,
+    pub(crate) instruments: Names,
     /// Those of keys, as parameters of a call.
-    pub keys: Names,
+    pub(crate) keys: Names,
     /// Those of recorders.
-    pub seats: Names,
+    pub(crate) seats: Names,
     /// Whether recorders that are numbered from 0 are a list.
-    pub has_lists: bool,
+    pub(crate) has_lists: bool,
     /// How texts are quoted.
-    pub quotes: Quotes,
+    pub(crate) quotes: Quotes,
     /// The templates of a file.
-    pub code: &'static [&'static str],
+    pub(crate) code: &'static [&'static str],
 }

@@ -1,7 +1,7 @@
 //! A service's metrics as code of its language: instruments, keys and values have names, so that what is not declared
 //! does not compile.
 //!
-//! [`rust_code`], [`go_code`], [`python_code`] and [`c_code`] make one file each of what a catalogue declares. What a
+//! [`code_in`] makes a file of what a catalogue declares, for [`RUST`], [`GO`], [`PYTHON`], [`C`] or [`RATTLE`]. What a
 //! file says is data: a language is a few templates, and one engine fills them. No two names of a file are the same.
 #![tactic(auto)]
 
@@ -19,10 +19,17 @@ mod naming;
 mod pieces;
 mod python;
 mod quoting;
+mod rattle;
 mod rust;
 mod seats;
 mod tree;
 mod values;
 
-pub use bound::{Bound, Source, c_code, go_code, python_code, rust_code};
+pub use bound::{Bound, Source, code_in};
+pub use c::C;
 pub use fault::BindFault;
+pub use go::GO;
+pub use language::Language;
+pub use python::PYTHON;
+pub use rattle::RATTLE;
+pub use rust::RUST;

@@ -34,26 +34,37 @@ pub(crate) fn names_of(
     things: &[ValueRef<'_>],
     style: Style,
 ) -> Result<Vec<String>, AllocError> {
-    let mut plain = Vec::new(alloc);
-    for thing in things {
-        plain.push(plain_name(alloc, *thing, style.shape)?)?;
-    }
+    let plain = plain_names(alloc, things, style.shape)?;
+    let mut sorted: Vec<&str> = plain.iter().map(|name| name.as_str()).collect(alloc)?;
+    sorted.sort_unstable();
     let mut names = Vec::new(alloc);
     for (thing, own) in things.iter().zip(&plain) {
-        names.push(name_of(alloc, *thing, own.as_str(), plain.as_slice(), style)?)?;
+        names.push(name_of(alloc, *thing, own.as_str(), sorted.as_slice(), style)?)?;
     }
     Ok(names)
+}
+
+fn plain_names(
+    alloc: Global,
+    things: &[ValueRef<'_>],
+    shape: Shape,
+) -> Result<Vec<String>, AllocError> {
+    let mut plain = Vec::new(alloc);
+    for thing in things {
+        plain.push(plain_name(alloc, *thing, shape)?)?;
+    }
+    Ok(plain)
 }
 
 fn name_of(
     alloc: Global,
     thing: ValueRef<'_>,
     own: &str,
-    plain: &[String],
+    sorted: &[&str],
     style: Style,
 ) -> Result<String, AllocError> {
     let is_taken = style.taken.iter().any(|names| names.contains(&own));
-    if own.is_empty() || is_shared(own, plain) || is_taken && style.shape == Shape::Camel {
+    if own.is_empty() || is_shared(own, sorted) || is_taken && style.shape == Shape::Camel {
         escaped_name(alloc, thing, style.shape)
     } else if is_taken {
         format!(in alloc; "{own}_")
@@ -62,14 +73,10 @@ fn name_of(
     }
 }
 
-fn is_shared(own: &str, plain: &[String]) -> bool {
-    let mut count = 0usize;
-    for name in plain {
-        if name.as_str() == own {
-            count = count.saturating_add(1);
-        }
-    }
-    count > 1
+/// Whether a text stands more than once among texts that are in order.
+pub(crate) fn is_shared(own: &str, sorted: &[&str]) -> bool {
+    let place = sorted.partition_point(|text| *text < own);
+    matches!(sorted.get(place.saturating_add(1)), Some(next) if *next == own)
 }
 
 // The plain name, or the empty text where there is none.

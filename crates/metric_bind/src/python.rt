@@ -4,14 +4,14 @@ use crate::naming::{Shape, Style};
 use crate::quoting::Quotes;
 
 /// Python.
-pub(crate) static PYTHON: Language = Language {
+pub static PYTHON: Language = Language {
     own: &[],
     types: Names {
         style: Style {
             shape: Shape::Camel,
             taken: &[&TYPES],
         },
-        whole: &["$type$"],
+        whole: &["$type$", "_$type$", "$type$_of"],
     },
     values: Names {
         style: Style {
@@ -105,6 +105,19 @@ $#value$
 $/$
 ]$/$
 
+$?texts$
+_$type$: dict[str, $type$] = {
+$#value$
+    $text$: $text$,
+$/$
+}
+
+
+def $type$_of(text: str) -> $type$ | None:
+    """The value of this text, where it is declared."""
+    return _$type$.get(text)
+
+$/$
 $/$
 "#;
 
@@ -121,23 +134,27 @@ class _On_$meter$__$on$:
         self.on = on
         self._bound: dict[object, _w.Bound] = {}
 
-    def $?adds$add$/$$!adds$record$/$(self, seat: _w.Recorder, value: int$?has_keys$, *$/$$#key$, $key$: $of$$?may$ | None = None$/$$/$) -> None:
-        """$?adds$Adds$/$$!adds$Records$/$ a value, or raises a `Refusal`: nothing is counted then."""
+    def bind(self$?has_keys$, *$/$$#key$, $key$: $of$$?may$ | None = None$/$$/$) -> _w.Bound:
+        """These attributes, for recordings by any recorder, or by one of your own; or raises a `Refusal`."""
         at = ($#key$$key$, $key$.__class__, $/$)
-        own = self._bound.get(at)
-        if own is None:
-            said: dict[str, _w.Value] = {}
+        if at in self._bound:
+            return self._bound[at]
+        said: dict[str, _w.Value] = {}
 $#key$
 $?may$
-            if $key$ is not None:
-                said[$quoted_key$] = $key$
-$/$
-$!may$
+        if $key$ is not None:
             said[$quoted_key$] = $key$
 $/$
+$!may$
+        said[$quoted_key$] = $key$
 $/$
-            own = self._bound[at] = self.on.bind(said)
-        seat.add(own, value)
+$/$
+        return self._bound.setdefault(at, self.on.bind(said))
+
+    def $?adds$add$/$$!adds$record$/$(self, seat: _w.Recorder, value: int$?has_keys$, *$/$$#key$, $key$: $of$$?may$ | None = None$/$$/$) -> None:
+        """$?adds$Adds$/$$!adds$Records$/$ a value, or raises a `Refusal`: nothing is counted then."""
+        own = self._bound.get(($#key$$key$, $key$.__class__, $/$))
+        seat.add(self.bind($#key$$!first$, $/$$key$=$key$$/$) if own is None else own, value)
 $/$
 $/$
 "#;

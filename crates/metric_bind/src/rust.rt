@@ -4,7 +4,7 @@ use crate::naming::{Shape, Style};
 use crate::quoting::Quotes;
 
 /// Rust.
-pub(crate) static RUST: Language = Language {
+pub static RUST: Language = Language {
     own: &[],
     types: Names {
         style: Style {
@@ -41,7 +41,9 @@ pub(crate) static RUST: Language = Language {
     },
     has_lists: true,
     quotes: Quotes::Braces,
-    code: &[HEAD, TYPE, SPAN, INSTRUMENT, METERS, FAULT, OPEN, BOUND],
+    code: &[
+        HEAD, TYPE, SPAN, INSTRUMENT, METERS, FAULT, OPEN, EXPECTED, BOUND, SHARED,
+    ],
 };
 
 const FIELD: Style = Style {
@@ -49,7 +51,7 @@ const FIELD: Style = Style {
     taken: &[&WORDS, &KEPT],
 };
 
-const TYPES: [&str; 14] = [
+const TYPES: [&str; 15] = [
     "BindFault",
     "Err",
     "From",
@@ -61,6 +63,7 @@ const TYPES: [&str; 14] = [
     "Recorders",
     "Result",
     "Self",
+    "Shared",
     "Some",
     "String",
     "Vec",
@@ -87,9 +90,9 @@ const HEAD: &str =
 //! What the service may record.
 #![allow(dead_code, non_camel_case_types, non_snake_case, unused_mut, unused_variables, clippy::all)]
 use wormweekly::{
-    ExpectedKey as ExpectedKey_, Instrument as Instrument_, Kind as Kind_, MeaningFault as MeaningFault_,
+    Bound as Bound_, ExpectedKey as ExpectedKey_, Instrument as Instrument_, Kind as Kind_, MeaningFault as MeaningFault_,
     OpenFault as OpenFault_, Opened as Opened_, Reader as Reader_, Recorder as Recorder_, Refusal as Refusal_,
-    Value as Value_,
+    Shared as Shared_, SharedInstrument as SharedInstrument_, Value as Value_,
 };
 "#;
 
@@ -165,16 +168,22 @@ $#instrument$
 /// `$said_meter$` `$said$`: $spoken$$?unit$ in `$unit$`$/$, $lo$ to $hi$.$?description$ $description$$/$$?allowed$ Not all values combine: the catalogue lists which do.$/$
 
 #[derive(Clone)]
-pub struct On_$meter$__$on$ {
-    on: Instrument_,
+pub struct On_$meter$__$on$<I = Instrument_> {
+    on: I,
 }
 
-impl On_$meter$__$on$ {
+impl<I> On_$meter$__$on$<I> {
     /// The instrument itself.
-    pub fn on(&self) -> &Instrument_ {
+    pub fn on(&self) -> &I {
         &self.on
     }
 
+    fn set_($#key$$!first$, $/$$key$: $?may$Option<$/$$?yes$bool$/$$!yes$$of$$/$$?may$>$/$$/$) -> [u16; 8] {
+        [$#key$$!first$, $/$$?may$$key$.map_or(0, |own| $?yes$flag_(own, $yes$, $no$)$/$$!yes$own.rank()$/$)$/$$!may$$?yes$flag_($key$, $yes$, $no$)$/$$!yes$$key$.rank()$/$$/$$/$$rest$]
+    }
+}
+
+impl On_$meter$__$on$ {
     /// $?adds$Adds$/$$!adds$Records$/$ a value. Where it is refused, nothing is counted.
     #[inline]
     pub fn $?adds$add$/$$!adds$record$/$(
@@ -185,8 +194,26 @@ $#key$
 $/$
         value: i64,
     ) -> Result<(), Refusal_> {
-        let set = [$#key$$!first$, $/$$?may$$key$.map_or(0, |own| $?yes$flag_(own, $yes$, $no$)$/$$!yes$own.rank()$/$)$/$$!may$$?yes$flag_($key$, $yes$, $no$)$/$$!yes$$key$.rank()$/$$/$$/$$rest$];
-        seat.record_set(&self.on, set, value)
+        seat.record_set(&self.on, Self::set_($#key$$!first$, $/$$key$$/$), value)
+    }
+}
+
+impl On_$meter$__$on$<SharedInstrument_> {
+    /// $?adds$Adds$/$$!adds$Records$/$ a value by any recorder. What is refused is counted, and told once.
+    #[inline]
+    pub fn $?adds$add$/$$!adds$record$/$(
+        &self,
+$#key$
+        $key$: $?may$Option<$/$$?yes$bool$/$$!yes$$of$$/$$?may$>$/$,
+$/$
+        value: i64,
+    ) {
+        self.on.add_set(Self::set_($#key$$!first$, $/$$key$$/$), value);
+    }
+
+    /// These attributes, for recordings and durations by any recorder.
+    pub fn bind(&self$#key$, $key$: $?may$Option<$/$$?yes$bool$/$$!yes$$of$$/$$?may$>$/$$/$) -> Bound_ {
+        self.on.bind_set(Self::set_($#key$$!first$, $/$$key$$/$))
     }
 }
 $/$
@@ -197,20 +224,20 @@ const METERS: &str = r#"
 $#meter$
 /// The instruments of the meter `$said_meter$`.
 #[derive(Clone)]
-pub struct Meter_$meter$ {
+pub struct Meter_$meter$<I = Instrument_> {
 $#instrument$
     /// `$said$`
-    pub $on$: On_$meter$__$on$,
+    pub $on$: On_$meter$__$on$<I>,
 $/$
 }
 
 $/$
 /// All instruments, each under its meter.
 #[derive(Clone)]
-pub struct Metrics {
+pub struct Metrics$?has_instruments$<I = Instrument_>$/$ {
 $#meter$
     /// `$said_meter$`
-    pub $meter$: Meter_$meter$,
+    pub $meter$: Meter_$meter$<I>,
 $/$
 }
 
@@ -236,6 +263,15 @@ pub struct Opened {
     pub warnings: String,
     /// The host's own calls.
     pub own: wormweekly::Metrics,
+}
+
+/// What is opened, and shared by threads: any of them records by any recorder.
+pub struct Shared {
+    pub metrics: Metrics$?has_instruments$<SharedInstrument_>$/$,
+    pub readers: Vec<Reader_>,
+    pub warnings: String,
+    /// The host's own calls.
+    pub own: Shared_,
 }
 "#;
 
@@ -279,12 +315,10 @@ fn taken_(seats: &mut Vec<Recorder_>, name: &'static str) -> Result<Recorder_, B
 }
 "#;
 
-const BOUND: &str = r#"
-/// Compares a run that is opened with what this file was made of.
-pub fn bound(opened: Opened_) -> Result<Opened, BindFault> {
-    let Opened_ { metrics: own, mut recorders, readers, warnings } = opened;
-    let seat = recorders.first_mut().ok_or(BindFault::Seat("of any name"))?;
-    let metrics = Metrics {
+const EXPECTED: &str = r#"
+fn metrics_(own: &wormweekly::Metrics, seats: &mut [Recorder_]) -> Result<Metrics, BindFault> {
+    let seat = seats.first_mut().ok_or(BindFault::Seat("of any name"))?;
+    Ok(Metrics {
 $#meter$
         $meter$: Meter_$meter$ {
 $#instrument$
@@ -308,7 +342,15 @@ $/$
 $/$
         },
 $/$
-    };
+    })
+}
+"#;
+
+const BOUND: &str = r#"
+/// Compares a run that is opened with what this file was made of.
+pub fn bound(opened: Opened_) -> Result<Opened, BindFault> {
+    let Opened_ { metrics: own, mut recorders, readers, warnings } = opened;
+    let metrics = metrics_(&own, &mut recorders)?;
     let recorders = Recorders {
 $#seat$
 $?list$
@@ -326,5 +368,25 @@ $/$
 $/$
     };
     Ok(Opened { metrics, recorders, readers, warnings, own })
+}
+"#;
+
+const SHARED: &str = r#"
+/// Compares a run that is opened with what this file was made of, and gives its recorders to the instruments.
+pub fn shared(mut opened: Opened_) -> Result<Shared, BindFault> {
+    let own = metrics_(&opened.metrics, &mut opened.recorders)?;
+    let warnings = std::mem::take(&mut opened.warnings);
+    let (all, readers) = opened.share();
+    let each = all.instruments();
+    let metrics = Metrics {
+$#meter$
+        $meter$: Meter_$meter$ {
+$#instrument$
+            $on$: On_$meter$__$on$ { on: each[own.$meter$.$on$.on.number() as usize].clone() },
+$/$
+        },
+$/$
+    };
+    Ok(Shared { metrics, readers, warnings, own: all })
 }
 "#;

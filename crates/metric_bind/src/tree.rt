@@ -1,6 +1,4 @@
 //! What a catalogue declares, as a template may ask for it: things with texts, each within another one.
-ghost use Rattle.std.specs.Prelude.{◌≡◌};
-
 use metric_base::Text;
 use std::alloc::{AllocError, Global};
 
@@ -73,6 +71,10 @@ impl Row {
         self.is_lost
     }
 
+    fn is_in(&self, above: usize, list: &str) -> bool {
+        self.above == above && self.list == list
+    }
+
     fn text(&self, name: &str) -> Option<&str> {
         let field = self.fields.iter().find(|field| field.name == name)?;
         Some(field.text.as_str())
@@ -86,13 +88,6 @@ pub(crate) struct Named {
     pub name: Text,
     /// Whose it is, for people.
     pub whose: Text,
-}
-
-/// The things of a file, the first of which is the file itself.
-#[derive(Drop)]
-pub(crate) struct Tree {
-    /// The things, each behind the one that it stands in.
-    pub rows: Vec<Row>,
 }
 
 /// The text of a thing, or of what it stands in; else the empty one.
@@ -110,13 +105,15 @@ pub(crate) fn text_of<'r>(rows: &'r [Row], row: usize, name: &str) -> &'r str {
     ""
 }
 
-/// The first thing from a place on that stands in a list of this one.
+/// The first thing from a place on that stands in a list of this one. What stands in a thing follows it, up to the first
+/// that stands in an earlier one.
 pub(crate) fn child_from(rows: &[Row], above: usize, list: &str, from: usize) -> Option<usize> {
     let rest = rows.get(from..)?;
-    let number = rest
+    let place = rest
         .iter()
-        .position(|row| row.above == above && row.list == list)?;
-    Some(from.saturating_add(number))
+        .take_while(|row| row.above >= above)
+        .position(|row| row.is_in(above, list))?;
+    Some(from.saturating_add(place))
 }
 
 /// The thing that this one leads to, where it leads to one.
@@ -127,10 +124,14 @@ pub(crate) fn link_of(rows: &[Row], row: usize) -> Option<usize> {
     }
 }
 
-/// Whether a thing is the first of its list.
+/// Whether a thing is the first of its list. The one before it is looked for from here on backwards, which is near.
 pub(crate) fn is_first(rows: &[Row], row: usize) -> bool {
-    match rows.get(row) {
-        Some(own) => child_from(rows, own.above, own.list, own.above) == Some(row),
-        None => false,
-    }
+    let (Some(own), Some(before)) = (rows.get(row), rows.get(..row)) else {
+        return false;
+    };
+    !before
+        .iter()
+        .rev()
+        .take_while(|other| other.above >= own.above)
+        .any(|other| other.is_in(own.above, own.list))
 }

@@ -1,6 +1,6 @@
 //! The types of keys, and their values.
 use crate::drafting::{Draft, number_text, put_text, text_at};
-use crate::key_types::{KeyType, is_flag, label_of, span_of};
+use crate::key_types::{KeyType, is_flag, is_long, labels_of, span_of};
 use crate::naming::{Shape, Style, names_of};
 use crate::quoting::said;
 use crate::tree::Row;
@@ -16,10 +16,7 @@ pub(crate) fn add_types(
     instruments: &[Instrument],
     meters: &[Meter],
 ) -> Result<Vec<usize>, AllocError> {
-    let mut labels = Vec::new(alloc);
-    for own in types {
-        labels.push(label_of(alloc, types, *own, instruments, meters)?)?;
-    }
+    let labels = labels_of(alloc, types, instruments, meters)?;
     let mut things = Vec::new(alloc);
     for label in &labels {
         things.push(ValueRef::Text(label.as_str()))?;
@@ -56,6 +53,7 @@ fn type_row(alloc: Global, draft: &Draft, own: KeyType<'_>, name: &str, upper: &
     put_flags(alloc, &mut row, values);
     let span = span_of(values);
     row.put_if(alloc, "names", !is_flag(values) && span.is_none());
+    row.put_if(alloc, "many", is_long(own.key));
     let is_text = values
         .iter()
         .all(|value| matches!(value, AttrValue::Text(_)));
@@ -131,11 +129,24 @@ fn add_values(
             "value",
             String::from_str(alloc, text_at(names.as_slice(), place)),
         );
+        put_piece(alloc, &mut row, place, values.len());
         let whose = told_value(alloc, whose, value)?;
         draft.add_named(alloc, row, language.values.whole, whose.as_str())?;
     }
     Ok(())
 }
+
+// Tells of the first value of a piece of the list, how long that is. A compiler may refuse the whole list.
+fn put_piece(alloc: Global, row: &mut Row, place: usize, count: usize) {
+    if place % PIECE == 0 {
+        row.put("piece", number_text(alloc, place / PIECE));
+        let left = count.saturating_sub(place);
+        row.put("size", number_text(alloc, left.min(PIECE)));
+    }
+}
+
+// How many values are in a piece.
+const PIECE: usize = 256;
 
 // Whose a value's name is.
 fn told_value(alloc: Global, whose: &str, value: &AttrValue) -> Result<String, AllocError> {

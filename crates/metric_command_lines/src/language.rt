@@ -13,6 +13,8 @@ pub enum Language {
     Python,
     /// C, also for C++.
     C,
+    /// Rattle.
+    Rattle,
 }
 
 impl Language {
@@ -25,6 +27,7 @@ impl Language {
             "go" => Some(Language::Go),
             "python" => Some(Language::Python),
             "c" => Some(Language::C),
+            "rattle" => Some(Language::Rattle),
             _ => None,
         }
     }

@@ -337,6 +337,7 @@ pub record IsBound (known : Known) (files : Files) (writing : Writing) : Type 0 
   pub is_held : IsHeld known.held files.catalogue source
   pub opened : opened_of source ≡ Ok contents
   pub put : IsPut known files.bound files code writing
+  pub apart : IsSomeAnd files.output (λ path. path ≡ files.catalogue) → ⊥
 
 -- The fault is the first of a catalogue, or memory ran out.
 abbrev pub IsSourceFault : List ℕ → ConsoleFault → Type 0

@@ -1,5 +1,5 @@
 //! The command that makes code of a catalogue.
-ghost use Rattle.std.specs.Prelude.{◌≡◌, ◌≢◌, Ok, IfErr, IfOk, true};
+ghost use Rattle.std.specs.Prelude.{◌≡◌, Ok, IfErr, IfOk, IsSomeAnd, true};
 ghost use Rattle.metric_catalogue.specs.Catalogues.{opened_of};
 ghost use Rattle.wormweekly_commands.specs.Faults.{IsUnread};
 ghost use Rattle.wormweekly_commands.specs.Readings.{IsHeld};
@@ -14,12 +14,12 @@ use crate::parts::{Texts, text_at};
 use crate::shown_path::shown;
 use crate::telling::stop;
 use metric_base::Text;
-use metric_bind::{BindFault, Bound, Source, c_code, go_code, python_code, rust_code};
+use metric_bind::{BindFault, Bound, C, GO, PYTHON, RATTLE, RUST, Source, code_in};
 use metric_catalogue::{Catalogue, CatalogueFault};
 use metric_command_lines::{Language, Request};
 use metric_io::Sink;
 use metric_kit_commands::KitFault;
-use std::alloc::{AllocError, Global};
+use std::alloc::Global;
 
 // The exit status where no code is made, or other code than a file has.
 const REFUSED: u8 = 1;
@@ -51,7 +51,10 @@ fn bind_source<F: Folder, W: Sink, E: Sink>(
     sink: &mut W,
     errors: &mut E,
 ) -> u8
-    requires { IsHeld (F.held folder.old) request.now.files.catalogue texts.now.parts.catalogue }
+    requires read { IsHeld (F.held folder.old) request.now.files.catalogue
+        texts.now.parts.catalogue }
+    requires apart { IsSomeAnd request.now.files.output (λ path. path ≡ request.now.files.catalogue)
+        → ⊥ }
     ensures { BindsFile (known_by F.held F.same folder.old) request.now.files
         (writing F.made W.contents folder.old folder.new sink.old sink.new) result }
 {
@@ -95,6 +98,8 @@ fn bind_catalogue<F: Folder, W: Sink, E: Sink>(
 ) -> u8
     requires read { IsHeld (F.held folder.old) request.now.files.catalogue source.now }
     requires opened { opened_of source.now ≡ Ok catalogue.now }
+    requires apart { IsSomeAnd request.now.files.output (λ path. path ≡ request.now.files.catalogue)
+        → ⊥ }
     ensures { BindsFile (known_by F.held F.same folder.old) request.now.files
         (writing F.made W.contents folder.old folder.new sink.old sink.new) result }
 {
@@ -125,12 +130,14 @@ fn code_of(
         instruments: catalogue.instruments(),
         recorders: catalogue.recorders(),
     };
-    match language {
-        Some(Language::C) => c_code(alloc, source),
-        Some(Language::Go) => go_code(alloc, source),
-        Some(Language::Python) => python_code(alloc, source),
-        Some(Language::Rust) | None => rust_code(alloc, source),
-    }
+    let language = match language {
+        Some(Language::C) => &C,
+        Some(Language::Go) => &GO,
+        Some(Language::Python) => &PYTHON,
+        Some(Language::Rattle) => &RATTLE,
+        Some(Language::Rust) | None => &RUST,
+    };
+    code_in(alloc, source, language)
 }
 
 // Writes code, or compares it with a file.
@@ -146,6 +153,8 @@ fn put_code<F: Folder, W: Sink, E: Sink>(
 ) -> u8
     requires read { IsHeld (F.held folder.old) request.now.files.catalogue source.now }
     requires opened { opened_of source.now ≡ Ok catalogue.now }
+    requires apart { IsSomeAnd request.now.files.output (λ path. path ≡ request.now.files.catalogue)
+        → ⊥ }
     ensures { BindsFile (known_by F.held F.same folder.old) request.now.files
         (writing F.made W.contents folder.old folder.new sink.old sink.new) result }
 {
@@ -193,13 +202,9 @@ fn refuse<E: Sink>(alloc: Global, request: &Request, fault: BindFault, errors: &
 fn tell<E: Sink>(alloc: Global, path: &Text, words: &str, errors: &mut E) -> u8
     ensures { result ≡ 1 }
 {
-    let _message = match told_of(alloc, path, words) {
+    let _message = match Message::of_file(alloc, shown(path.as_str()), words) {
         Ok(told) => print(errors, told.text.as_str()),
         Err(_) => print(errors, "out of memory\n"),
     };
     REFUSED
-}
-
-fn told_of(alloc: Global, path: &Text, words: &str) -> Result<Message, AllocError> {
-    Message::of_file(alloc, shown(path.as_str()), words)
 }

@@ -21,7 +21,7 @@ pub(crate) fn bind<'a>(alloc: Global) -> Result<Command<'a>, AllocError>
     ensures local { IfOk result (λ command. (fields_of command).has_globals ≡ false) }
 {
     let command = over_catalogue(alloc);
-    let help = "The language: `rust`, `go`, `python` or `c`";
+    let help = "The language: `rust`, `go`, `python`, `c` or `rattle`";
     let language = renamed(alloc, "language", "for", "LANGUAGE", help);
     let command = with_argument(command, language);
     let help = "Write nothing, and end with status 1 if this file would be made otherwise";

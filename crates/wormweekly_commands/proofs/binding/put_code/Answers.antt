@@ -14,6 +14,7 @@ returns-in-Ok g c = inl (
     is_held = c.requires.read;
     opened = c.requires.opened;
     put = put_written (known_by g.F.Folder.held g.F.Folder.same c.args.folder.now) c.args.request.now.files.bound c.args.request.now.files c.as_bytes.result.now _ c.in_default.is c.in-Ok.ensures.delivered;
+    apart = c.requires.apart;
   },
 )
 
@@ -27,5 +28,6 @@ returns-in-Ok-true g c = inl (
     is_held = c.requires.read;
     opened = c.requires.opened;
     put = put_compared (known_by g.F.Folder.held g.F.Folder.same c.args.folder.now) c.args.request.now.files.bound c.args.request.now.files c.args.code.now _ c.in-Some.path c.in-Some.is (c.in-Ok-true.ensures.same c.in-Ok-true.field-0-test) (refl, refl);
+    apart = c.requires.apart;
   },
 )
