@@ -98,7 +98,7 @@ func (bound *Bound) isAdded(value int64) bool {
 // Keeps a recording, by a recorder that nobody uses and that has budget left, or answers why its attributes are
 // refused. False where it is neither.
 func (instrument *Instrument) keep(first int, what *recording, in *cell) (answer uint32, isDone bool) {
-	if how := &instrument.keeping; !how.isKept || what.isCountedIn || !how.has(what.value) {
+	if how := &instrument.keeping; !how.isKept || what.isCountedIn || what.isGiven || !how.has(what.value) {
 		return answerDone, false
 	}
 	instrument.byAny(first, func(recorder *Recorder) bool {

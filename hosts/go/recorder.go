@@ -45,8 +45,12 @@ func (recorder *Recorder) Add(bound Bound, value int64) error {
 // AddSet makes a recording of a set key, as code that is made from a catalogue writes one: for each key of the
 // instrument, in its order, 0 where the recording has no such key, else the number of its value, from 1; behind them 0.
 // A set key that no attributes come to is refused as ErrUnknownValue, or as ErrCombination where the instrument does not
-// allow the combination. Where it is refused, nothing is counted.
+// allow the combination. Where it is refused, nothing is counted. A nil recorder is any that is free, as for
+// Instrument.TryAdd.
 func (recorder *Recorder) AddSet(on *Instrument, set [8]uint16, value int64) error {
+	if recorder == nil {
+		return on.tried(&recording{set: setKeyOf(set), isSet: true, isGiven: true, value: value}, nil)
+	}
 	if err := recorder.begin(on); err != nil {
 		return err
 	}

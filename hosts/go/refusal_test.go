@@ -186,17 +186,22 @@ func TestMisuseIsRefusedByName(t *testing.T) {
 
 func TestASetKeyThatIsWrittenIsThatOfAttributes(t *testing.T) {
 	metrics, _, second, requests := opened(t)
-	done(t, second.AddSet(requests, [8]uint16{2, 1}, 7))
-	done(t, second.AddSet(requests, [8]uint16{2, 1, 2}, 1))
-	for _, wrong := range [][8]uint16{{0, 1}, {3, 1}, {2, 1, 3}, {2, 1, 0, 1}} {
-		if err := second.AddSet(requests, wrong, 1); !errors.Is(err, ErrUnknownValue) {
-			t.Errorf("%v for %v", err, wrong)
+	for _, recorder := range []*Recorder{second, nil} {
+		done(t, recorder.AddSet(requests, [8]uint16{2, 1}, 7))
+		done(t, recorder.AddSet(requests, [8]uint16{2, 1, 2}, 1))
+		for _, wrong := range [][8]uint16{{0, 1}, {3, 1}, {2, 1, 3}, {2, 1, 0, 1}} {
+			if err := recorder.AddSet(requests, wrong, 1); !errors.Is(err, ErrUnknownValue) {
+				t.Errorf("%v for %v", err, wrong)
+			}
 		}
+	}
+	if refused := requests.Refused()[ErrUnknownValue.Name]; refused != 4 {
+		t.Errorf("%d were counted as refused by any recorder", refused)
 	}
 	if bound := must(requests.Bind(String("route", "/cart"), Int("status", 200)))(t); bound.set != setKeyOf([8]uint16{2, 1}) {
 		t.Error(bound.set)
 	}
-	if count := totalsOf(t, metrics)[0].Count; count != 2 {
+	if count := totalsOf(t, metrics)[0].Count; count != 4 {
 		t.Errorf("%d were counted", count)
 	}
 }

@@ -107,6 +107,7 @@ type recording struct {
 	attributes  []Attr
 	set         setKey
 	isSet       bool
+	isGiven     bool // a set key that nobody looked up: it may be refused, so that it is not kept for later
 	value       int64
 	isCountedIn bool
 	recorder    int

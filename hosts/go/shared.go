@@ -79,13 +79,16 @@ func (instrument *Instrument) Record(value int64, attributes ...Attr) {
 
 // TryAdd makes a recording on an instrument of any kind. The error is counted and told as those of Add.
 func (instrument *Instrument) TryAdd(value int64, attributes ...Attr) error {
-	what := recording{attributes: attributes, value: value}
-	answer := instrument.share(&what, nil)
+	return instrument.tried(&recording{attributes: attributes, value: value}, nil)
+}
+
+func (instrument *Instrument) tried(what *recording, in *cell) error {
+	answer := instrument.share(what, in)
 	if answer == answerDone {
 		return nil
 	}
-	instrument.settled(answer, &what)
-	return instrument.said(answer, &what)
+	instrument.settled(answer, what)
+	return instrument.said(answer, what)
 }
 
 // AddDuration records how long something took, in whole units, as time.Millisecond. What is above the range is recorded
@@ -149,13 +152,7 @@ func (bound Bound) TryAdd(value int64) error {
 	if bound.isAdded(value) {
 		return nil
 	}
-	what := recording{set: bound.set, isSet: true, value: value}
-	answer := bound.instrument.share(&what, bound.cell)
-	if answer == answerDone {
-		return nil
-	}
-	bound.instrument.settled(answer, &what)
-	return errorOn(bound.instrument, answer)
+	return bound.instrument.tried(&recording{set: bound.set, isSet: true, value: value}, bound.cell)
 }
 
 // AddDuration records a duration as Instrument.AddDuration does.

@@ -5,18 +5,20 @@
 //! the workers counted.
 #![tactic(auto)]
 
+mod bound;
 mod json;
 mod json_lines;
 mod shop;
 
 use anyhow::{Context, Result, bail, ensure};
+use bound::Shop;
 use json::Times;
 use json_lines::JsonLines;
 use metric_sdk::{
     Attr, Marked, NamedText, NoGate, OtlpLines, Plan, Recorder, Resource, Runs, Service,
     ServiceBuilder, StdSink, StopFlag, TextExporter, Totals, diagnosed, live, now, open_with_lanes,
 };
-use shop::{Shop, counted, hired};
+use shop::{Served, counted, hired};
 use std::env;
 use std::fs::{self, File};
 use std::rt::{Env, Files};
@@ -35,7 +37,7 @@ fn main(rt: HostRuntime) -> Result<()> {
     // What takes the service's own lines stamps each one.
     let own = JsonLines::new(StdSink::new(rt.stdout()), Times::LeftOut);
     let service = service.tell(alloc, "new", own, 60_000)?.build()?;
-    let shop = Shop::new(service.plan())?;
+    let shop = Shop::of(service.plan())?;
     let workers = hired(alloc, service.plan(), recorders)?;
     let (service, workers) = live(&rt, service, workers, &StopFlag::new(), &shop);
     let counts = counted(alloc, workers.as_slice())?;
@@ -72,15 +74,21 @@ fn named<'a>(name: &'a str, text: &'a str) -> NamedText<'a> {
 }
 
 // Tells what each instrument came to. Fails where that is not what the workers counted.
-fn settle<R: Print>(rt: &R, plan: &Plan, totals: &Totals, counts: (u64, [u64; 7])) -> Result<()> {
+fn settle<R: Print>(
+    rt: &R,
+    plan: &Plan,
+    totals: &Totals,
+    counts: (Served, [u64; 7]),
+) -> Result<()> {
     let (served, refused) = counts;
     let totals = totals.instruments.iter().zip(refused);
     for (instrument, (total, refused)) in plan.catalogue().instruments().iter().zip(totals) {
         let (name, count, sum) = (instrument.name.get().as_str(), total.count, total.sum);
         println!(rt; "{name}: {count} recordings, sum {sum}, {refused} refused")?;
-        let is_counted = count.saturating_add(refused) == served;
+        let is_counted = count.saturating_add(refused) == served.recorded;
         ensure!(is_counted, "{name} is not what the workers counted");
     }
-    println!(rt; "requests: {served}")?;
+    let Served { recorded, unknown } = served;
+    println!(rt; "requests: {recorded}, and {unknown} of routes that are not declared")?;
     Ok(())
 }

@@ -12,6 +12,10 @@ import (
 
 // A Page of all instruments, which a handler of HTTP answers with. It goes on where a run ends: what ended is added.
 type Page struct {
+	// Created has pages in OpenMetrics say when counters and histograms began, in lines `_created`. A server that does
+	// not take them as that keeps each as a series more. Set it before the first request.
+	Created bool
+
 	metrics  *wormweekly.Metrics
 	reader   int
 	resource []wormweekly.Attr
@@ -21,8 +25,8 @@ type Page struct {
 
 // Handler answers each request with a page of all instruments, collected then, with the attributes of the resource.
 // Where the metrics have no other reader, it rolls them over before a budget is spent, as far as requests come in time;
-// else hand Take the runs that end. A page is packed by gzip where the request takes that. The error says why there is none: streams that can not stand in one, a resource
-// that is not taken, or a reader of another run.
+// else hand Take the runs that end. A page is packed by gzip where the request takes that. The error says why there is
+// none: streams that can not stand in one, a resource that is not taken, or a reader of another run.
 func Handler(metrics *wormweekly.Metrics, reader *wormweekly.Reader, resource ...wormweekly.Attr) (*Page, error) {
 	if err := reader.Expose(); err != nil {
 		return nil, err
@@ -35,6 +39,9 @@ func Handler(metrics *wormweekly.Metrics, reader *wormweekly.Reader, resource ..
 
 func (own *Page) ServeHTTP(writer http.ResponseWriter, request *http.Request) {
 	dialect := wormweekly.Accepted(request.Header.Get("Accept"))
+	if dialect == wormweekly.OpenMetrics {
+		dialect = own.openMetrics()
+	}
 	page, err := own.text(dialect)
 	if err != nil {
 		http.Error(writer, err.Error(), http.StatusInternalServerError)
@@ -53,6 +60,13 @@ func (own *Page) ServeHTTP(writer http.ResponseWriter, request *http.Request) {
 	_ = packer.Close()
 }
 
+func (own *Page) openMetrics() wormweekly.Dialect {
+	if own.Created {
+		return wormweekly.OpenMetricsCreated
+	}
+	return wormweekly.OpenMetrics
+}
+
 // Take adds a run that ended.
 func (own *Page) Take(ended *wormweekly.Ended) error {
 	own.mutex.Lock()
@@ -62,7 +76,7 @@ func (own *Page) Take(ended *wormweekly.Ended) error {
 
 func (own *Page) take(ended *wormweekly.Ended) error {
 	sums := map[wormweekly.Dialect][]byte{}
-	for _, dialect := range []wormweekly.Dialect{wormweekly.Text, wormweekly.OpenMetrics} {
+	for _, dialect := range []wormweekly.Dialect{wormweekly.Text, own.openMetrics()} {
 		last, err := own.collected(ended.Metrics, dialect)
 		if err != nil {
 			return err

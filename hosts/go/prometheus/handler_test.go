@@ -203,3 +203,32 @@ duration_milliseconds_count{otel_scope_name="shop"} 32
 		t.Error(err, asked(""))
 	}
 }
+
+func TestAPageTellsWhenSeriesBegan(t *testing.T) {
+	metrics := opened(t, "")
+	page, err := Handler(metrics, metrics.Readers[0])
+	if err != nil {
+		t.Fatal(err)
+	}
+	page.Created = true
+	ended, err := metrics.RollOver(time.Now())
+	if err != nil {
+		t.Fatal(err)
+	}
+	if err := page.Take(ended); err != nil {
+		t.Fatal(err)
+	}
+	request, answer := httptest.NewRequest(http.MethodGet, "/metrics", nil), httptest.NewRecorder()
+	request.Header.Set("Accept", "application/openmetrics-text")
+	page.ServeHTTP(answer, request)
+	for _, line := range []string{
+		`http_requests_created{route="a\"b\\c\nd",cached="true",otel_scope_name="shop"} 1.000000000`,
+		`http_requests_total{route="a\"b\\c\nd",cached="true",otel_scope_name="shop"} 5`,
+		`duration_milliseconds_created{otel_scope_name="shop"} 1.000000000`,
+		`duration_milliseconds_count{otel_scope_name="shop"} 3`,
+	} {
+		if !strings.Contains(answer.Body.String(), line+"\n") {
+			t.Errorf("no %s in\n%s", line, answer.Body.String())
+		}
+	}
+}

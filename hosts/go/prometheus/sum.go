@@ -15,6 +15,7 @@ type family struct {
 	head    []string
 	series  []string
 	values  map[string]*big.Int
+	created map[string]string // when series began, which is when they first did
 }
 
 // A sum of pages: counters and histograms are added up, and of all else the last page tells.
@@ -49,7 +50,7 @@ func (own *sum) family(name, kind string) *family {
 	if found, is := own.byName[name]; is {
 		return found
 	}
-	made := &family{isAdded: kind == "counter" || kind == "histogram", values: map[string]*big.Int{}}
+	made := &family{isAdded: kind == "counter" || kind == "histogram", values: map[string]*big.Int{}, created: map[string]string{}}
 	if own.byName == nil {
 		own.byName = map[string]*family{}
 	}
@@ -60,6 +61,13 @@ func (own *sum) family(name, kind string) *family {
 
 func (own *family) add(line string, isLast bool) error {
 	at := strings.LastIndexByte(line, ' ')
+	if own.isAdded && isCreated(line) {
+		if _, is := own.created[line[:at]]; !is {
+			own.created[line[:at]] = line[at+1:]
+			own.series = append(own.series, line[:at])
+		}
+		return nil
+	}
 	value, is := new(big.Int).SetString(line[at+1:], 10)
 	switch {
 	case !is:
@@ -75,6 +83,12 @@ func (own *family) add(line string, isLast bool) error {
 	}
 	own.values[series] = value
 	return nil
+}
+
+// Whether a line of a counter or a histogram tells when a series began.
+func isCreated(line string) bool {
+	end := strings.IndexAny(line, "{ ")
+	return strings.HasSuffix(line[:end], "_created")
 }
 
 // A page, added to one of runs that ended before.
@@ -96,7 +110,11 @@ func (own *sum) text(dialect wormweekly.Dialect) []byte {
 			fmt.Fprintln(&out, line)
 		}
 		for _, series := range of.series {
-			fmt.Fprintln(&out, series, of.values[series])
+			if began, is := of.created[series]; is {
+				fmt.Fprintln(&out, series, began)
+			} else {
+				fmt.Fprintln(&out, series, of.values[series])
+			}
 		}
 	}
 	if dialect != wormweekly.Text {

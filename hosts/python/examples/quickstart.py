@@ -2,21 +2,11 @@
 
 import logging
 import sys
+from pathlib import Path
 
-from wormweekly import Metrics
+import quickstart_bound as bound
 
-CATALOGUE = """format = 1
-[[meter]]
-name = 'shop'
-[[meter.instrument]]
-name = 'orders'
-kind = 'counter'
-range = [1, 100]
-key = [{ name = 'country', values = ['de', 'fr'] }]
-[[recorder]]
-name = 'till'
-budget = [{ instrument = 0, amount = 1000 }]
-"""
+CATALOGUE = Path(__file__).with_name("quickstart.toml").read_text()
 
 CONFIG = """format = 1
 [[reader]]
@@ -25,13 +15,13 @@ name = 'console'
 
 logging.basicConfig(stream=sys.stdout, format="%(message)s")
 
-metrics = Metrics.open(CATALOGUE, CONFIG, start=0)  # two texts; an OpenFault tells the first fault
-orders = metrics.instrument("orders")
-orders.add(2, {"country": "de"})  # in any thread
-french = orders.bind({"country": "fr"})  # looked up once
+metrics = bound.Metrics.open(CATALOGUE, CONFIG, start=0)  # two texts; an OpenFault tells the first fault
+orders = metrics.shop.orders
+orders.bind(country="de").add(2)  # in any thread; another country does not pass mypy
+french = orders.bind(country="fr")  # looked up once
 french.add(1)
-orders.add(1, {"country": "uk"})  # not counted: it is logged once, or raised where the run is strict
-print(f"refused: {orders.refused}")
-print(metrics.reader("console").text(orders, 1_000), end="")
-for total in metrics.roll_over().totals:  # and the next run begins, in the same seats
+orders.on.add(1, {"country": "uk"})  # by texts: not counted, but logged once, or raised where the run is strict
+print(f"refused: {orders.on.refused}")
+print(metrics.own.reader("console").text(orders.on, 1_000), end="")
+for total in metrics.own.roll_over().totals:  # and the next run begins, in the same seats
     print(f"settled: {total.sum} in {total.count} recordings")

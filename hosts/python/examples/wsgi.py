@@ -1,4 +1,5 @@
-"""A WSGI application that is measured, and that shows its metrics at /metrics.
+"""A WSGI application that is measured, and that shows its metrics at /metrics. What it records itself are names of code
+that `wormweekly bind` made of its catalogue.
 
     python wsgi.py            serves some requests to itself, and prints the page
     python wsgi.py PORT       serves
@@ -11,43 +12,20 @@ import threading
 import urllib.error
 import urllib.request
 from collections.abc import Iterable
+from pathlib import Path
 from socketserver import ThreadingMixIn
 from typing import TYPE_CHECKING
+from urllib.parse import parse_qs
 from wsgiref.simple_server import WSGIRequestHandler, WSGIServer, make_server
 
-from wormweekly import Metrics
+import wsgi_bound as bound
 from wormweekly.exporters.pages import Page
 from wormweekly.web import Measures, Wsgi
 
 if TYPE_CHECKING:
     from wsgiref.types import StartResponse, WSGIApplication, WSGIEnvironment
 
-CATALOGUE = """format = 1
-[[meter]]
-name = 'http'
-[[meter.instrument]]
-name = 'http.requests'
-kind = 'counter'
-range = [1, 1]
-key = [{ name = 'route', values = ['/', '/cart', 'other'] }, { name = 'status', values = [200, 404, 500] }]
-[[meter.instrument]]
-name = 'http.duration'
-kind = 'histogram'
-unit = 'ms'
-range = [0, 60000]
-boundaries = [5, 50, 500]
-key = [{ name = 'route', values = ['/', '/cart', 'other'] }]
-[[meter.instrument]]
-name = 'http.in_flight'
-kind = 'up_down_counter'
-range = [-1, 1]
-""" + "".join(
-    f"""[[recorder]]
-name = 'worker {number}'
-budget = [{{ instrument = 0, amount = 1000000 }}, {{ instrument = 1, amount = 1000000 }}, {{ instrument = 2, amount = 2000000 }}]
-"""
-    for number in range(4)
-)
+CATALOGUE = Path(__file__).with_name("wsgi.toml").read_text()
 
 CONFIG = """format = 1
 [[reader]]
@@ -55,10 +33,25 @@ name = 'prometheus'
 """
 
 
-def shop(environ: WSGIEnvironment, start_response: StartResponse) -> Iterable[bytes]:
-    found = environ["PATH_INFO"] in ("/", "/cart")
-    start_response("200 OK" if found else "404 Not Found", [("Content-Type", "text/plain")])
-    return [b"welcome\n" if found else b"nothing here\n"]
+class Shop:
+    def __init__(self, metrics: bound.Metrics) -> None:
+        self.metrics = metrics
+
+    def __call__(self, environ: WSGIEnvironment, start_response: StartResponse) -> Iterable[bytes]:
+        status, words = self.answer(environ["PATH_INFO"], parse_qs(environ["QUERY_STRING"]))
+        start_response(status, [("Content-Type", "text/plain")])
+        return [words]
+
+    def answer(self, path: str, query: dict[str, list[str]]) -> tuple[str, bytes]:
+        if path == "/":
+            return "200 OK", b"welcome\n"
+        if path != "/cart":
+            return "404 Not Found", b"nothing here\n"
+        country = bound.Country_of(query.get("country", [""])[0])
+        if country is None:
+            return "400 Bad Request", b"no such country\n"
+        self.metrics.shop.orders.bind(country=country).add(1)
+        return "200 OK", b"ordered\n"
 
 
 class Server(ThreadingMixIn, WSGIServer):
@@ -72,11 +65,14 @@ class Quiet(WSGIRequestHandler):
         pass
 
 
-def measured(application: WSGIApplication) -> Wsgi:
+def opened() -> bound.Metrics:
+    return bound.Metrics.open(CATALOGUE, CONFIG)
+
+
+def measured(application: WSGIApplication, metrics: bound.Metrics) -> Wsgi:
     """The application, measured."""
-    metrics = Metrics.open(CATALOGUE, CONFIG)
-    page = Page(metrics, metrics.reader("prometheus"), {"service.name": "shop"})
-    return Wsgi(application, Measures(metrics), page=page.bytes)
+    page = Page(metrics.own, metrics.own.reader("prometheus"), {"service.name": "shop"})
+    return Wsgi(application, Measures(metrics.own), page=page.bytes)
 
 
 def get(url: str) -> str:
@@ -88,12 +84,13 @@ def get(url: str) -> str:
 
 
 def main(port: int | None) -> None:
-    server = make_server("127.0.0.1", port or 0, measured(shop), Server, Quiet)
+    metrics = opened()
+    server = make_server("127.0.0.1", port or 0, measured(Shop(metrics), metrics), Server, Quiet)
     if port is not None:
         server.serve_forever()
     threading.Thread(target=server.serve_forever, daemon=True).start()
     own = f"http://127.0.0.1:{server.server_port}"
-    for path in ("/", "/cart", "/", "/nothing"):
+    for path in ("/", "/cart?country=de", "/", "/nothing"):
         get(own + path)
     for line in get(own + "/metrics").splitlines():
         if not line.startswith("http_duration_milliseconds_"):

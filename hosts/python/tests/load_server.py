@@ -11,7 +11,7 @@ from wsgiref.simple_server import make_server
 
 sys.path.insert(0, str(Path(__file__).resolve().parent.parent / "examples"))
 
-from wsgi import Quiet, Server, measured  # noqa: E402
+from wsgi import Quiet, Server, measured, opened  # noqa: E402
 
 if TYPE_CHECKING:
     from wsgiref.types import StartResponse, WSGIApplication, WSGIEnvironment
@@ -29,7 +29,7 @@ class Busy(Server):
 
 application: WSGIApplication = slow
 if sys.argv[1] == "measured":
-    application = measured(slow)
+    application = measured(slow, opened())
 server = make_server("127.0.0.1", 0, application, Busy, Quiet)
 print(server.server_port, flush=True)
 server.serve_forever()

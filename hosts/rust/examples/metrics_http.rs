@@ -1,5 +1,6 @@
 //! Serves `/metrics` for Prometheus with the standard library alone: at most 8 KiB of head and five seconds for it, and
-//! a thread for each of at most 32 clients, so that a slow one holds nobody.
+//! a thread for each of at most 32 clients, so that a slow one holds nobody. What it records are names of code that
+//! `wormweekly bind` made of its catalogue.
 //!
 //!     cargo run --offline --release --example metrics_http [ADDRESS:PORT]
 use std::error::Error;
@@ -9,7 +10,11 @@ use std::sync::atomic::{AtomicUsize, Ordering};
 use std::sync::{Arc, Mutex};
 use std::thread;
 use std::time::{Duration, Instant, SystemTime, UNIX_EPOCH};
-use wormweekly::{Dialect, Metrics, Opened, Reader, Resource, open};
+use wormweekly::{Dialect, Metrics, Reader, Resource};
+
+#[rustfmt::skip]
+#[path = "metrics_http/bound.rs"]
+mod bound;
 
 const CATALOGUE: &str = include_str!("metrics_http.toml");
 const CONFIG: &str = "format = 1\n[[reader]]\nname = 'prometheus'\n";
@@ -97,20 +102,15 @@ fn serve(listener: &TcpListener, source: &Arc<Source>) {
 
 fn main() -> Result<(), Box<dyn Error>> {
     let address = std::env::args().nth(1).unwrap_or("127.0.0.1:0".to_owned());
-    let Opened {
-        metrics,
-        mut recorders,
-        mut readers,
-        ..
-    } = open(CATALOGUE, CONFIG, 1_000_000_000)?;
-    readers[0].expose()?;
-    let (orders, took) = (metrics.instrument("orders")?, metrics.instrument("took")?);
-    recorders[0].record(orders, &[("country", "de".into())], 2)?;
-    recorders[0].record(took, &[], 7)?;
+    let mut opened = bound::open(CATALOGUE, CONFIG, 1_000_000_000)?;
+    opened.readers[0].expose()?;
+    let (shop, till) = (&opened.metrics.shop, &mut opened.recorders.till);
+    shop.orders.add(till, bound::Country::De, 2)?;
+    shop.took.record(till, 7)?;
     let resource = Resource::new(&[("service.name", "shop".into())]);
-    let reader = Mutex::new(readers.remove(0));
+    let reader = Mutex::new(opened.readers.remove(0));
     let source = Arc::new(Source {
-        metrics,
+        metrics: opened.own,
         reader,
         resource,
     });

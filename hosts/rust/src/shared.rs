@@ -301,14 +301,26 @@ impl SharedInstrument {
             None => Err(UNKNOWN_RECORDER),
         };
         match found {
-            Ok(set) => Ok(Bound {
-                on: self.clone(),
-                set,
-            }),
+            Ok(set) => Ok(self.bind_set(set)),
             Err(code) => {
                 self.settled(code, attributes, 0);
                 Err(code)
             }
+        }
+    }
+
+    /// Makes a recording of a set key, as code that is made from a catalogue writes one ([`Recorder::record_set`]).
+    ///
+    /// [`Recorder::record_set`]: crate::Recorder::record_set
+    pub fn add_set(&self, set: [u16; 8], value: i64) {
+        self.settled_set(self.set_code(set, value));
+    }
+
+    /// The attributes of a set key, for recordings by any thread; what is wrong with it is refused at each of them.
+    pub fn bind_set(&self, set: [u16; 8]) -> Bound {
+        Bound {
+            on: self.clone(),
+            set,
         }
     }
 
@@ -342,6 +354,18 @@ impl SharedInstrument {
         self.own
             .shards
             .record(number, |_, shard| shard.record(number, attributes, value))
+    }
+
+    fn set_code(&self, set: [u16; 8], value: i64) -> u32 {
+        let number = self.number;
+        let made = |_: usize, shard: &mut Shard| shard.record_set(number, set, value);
+        self.own.shards.record(number, made)
+    }
+
+    fn settled_set(&self, code: u32) {
+        if code != 0 {
+            self.count_refused(code, || Refusal::of(code));
+        }
     }
 
     // Counts what is refused, and tells what is refused for the first time.
@@ -451,14 +475,10 @@ impl Bound {
     }
 
     fn code(&self, value: i64) -> u32 {
-        let (number, set) = (self.on.number, self.set);
-        let made = |_: usize, shard: &mut Shard| shard.record_set(number, set, value);
-        self.on.own.shards.record(number, made)
+        self.on.set_code(self.set, value)
     }
 
     fn settled(&self, code: u32) {
-        if code != 0 {
-            self.on.count_refused(code, || Refusal::of(code));
-        }
+        self.on.settled_set(code);
     }
 }

@@ -86,6 +86,23 @@ fn threads_share_instruments() {
 }
 
 #[test]
+fn set_keys_that_a_host_writes_are_those_of_attributes() -> Result<(), Box<dyn std::error::Error>> {
+    let (shared, _) = shared();
+    let orders = named(&shared, "orders");
+    let set = |entry: u16| [entry, 0, 0, 0, 0, 0, 0, 0];
+    orders.add_set(set(1), 7);
+    orders.bind_set(set(2)).add(20);
+    for wrong in [0, 3] {
+        orders.add_set(set(wrong), 1);
+        assert!(orders.bind_set(set(wrong)).try_add(1).is_err());
+    }
+    let refused: Vec<u64> = orders.refused().iter().map(|(_, count)| *count).collect();
+    assert_eq!(refused, [4]);
+    assert_eq!(shared.settle()?[0], Total { count: 2, sum: 27 });
+    Ok(())
+}
+
+#[test]
 fn eight_threads_record_by_two_recorders_and_nothing_is_lost()
 -> Result<(), Box<dyn std::error::Error>> {
     const TIMES: u64 = 40_000;

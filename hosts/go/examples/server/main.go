@@ -1,10 +1,12 @@
-// A server that is measured, and shows its metrics at /metrics.
+// A server that is measured, and shows its metrics at /metrics. What it records itself are names of code that
+// `wormweekly bind` made of its catalogue.
 //
 //	go run ./examples/server            serves some requests to itself, and prints the page
 //	go run ./examples/server ADDRESS    serves
 package main
 
 import (
+	_ "embed"
 	"fmt"
 	"io"
 	"log"
@@ -14,46 +16,18 @@ import (
 	"strings"
 
 	"wormweekly.example/wormweekly"
+	"wormweekly.example/wormweekly/examples/server/bound"
 	"wormweekly.example/wormweekly/prometheus"
 	"wormweekly.example/wormweekly/web"
 )
 
-const catalogue = `format = 1
-[[meter]]
-name = 'http'
-[[meter.instrument]]
-name = 'http.requests'
-kind = 'counter'
-range = [1, 1]
-key = [{ name = 'route', values = ['/', '/cart', 'other'] }, { name = 'status', values = [200, 404, 500] }]
-[[meter.instrument]]
-name = 'http.duration'
-kind = 'histogram'
-unit = 'ms'
-range = [0, 60000]
-boundaries = [5, 50, 500]
-key = [{ name = 'route', values = ['/', '/cart', 'other'] }]
-[[meter.instrument]]
-name = 'http.in_flight'
-kind = 'up_down_counter'
-range = [-1, 1]
-`
-
-const recorder = `[[recorder]]
-name = 'worker %d'
-budget = [
-    { instrument = 0, amount = 1000000 },
-    { instrument = 1, amount = 1000000 },
-    { instrument = 2, amount = 2000000 },
-]
-`
+//go:embed catalogue.toml
+var catalogue string
 
 const config = `format = 1
 [[reader]]
 name = 'prometheus'
 `
-
-const workers = 4
 
 func main() {
 	address := ""
@@ -66,22 +40,19 @@ func main() {
 }
 
 func run(address string) error {
-	text := catalogue
-	for number := 0; number < workers; number++ {
-		text += fmt.Sprintf(recorder, number)
-	}
-	metrics, err := wormweekly.Open(text, config)
+	metrics, err := bound.Open(catalogue, config)
 	if err != nil {
 		return err
 	}
-	page, err := prometheus.Handler(metrics, metrics.Readers[0], wormweekly.String("service.name", "shop"))
+	own := metrics.Own
+	page, err := prometheus.Handler(own, own.Readers[0], wormweekly.String("service.name", "shop"))
 	if err != nil {
 		return err
 	}
 	mux := http.NewServeMux()
 	mux.Handle("/metrics", page)
-	metrics.OnRefusal(func(_ *wormweekly.Instrument, err error) { log.Printf("not counted, told once: %v", err) })
-	measured, err := web.Measure(http.HandlerFunc(shop), metrics)
+	own.OnRefusal(func(_ *wormweekly.Instrument, err error) { log.Printf("not counted, told once: %v", err) })
+	measured, err := web.Measure(shop{metrics}, own)
 	if err != nil {
 		return err
 	}
@@ -92,12 +63,22 @@ func run(address string) error {
 	return show(mux)
 }
 
-func shop(writer http.ResponseWriter, request *http.Request) {
-	if request.URL.Path != "/" && request.URL.Path != "/cart" {
+type shop struct{ metrics *bound.Metrics }
+
+func (own shop) ServeHTTP(writer http.ResponseWriter, request *http.Request) {
+	switch request.URL.Path {
+	case "/":
+		fmt.Fprintln(writer, "welcome")
+	case "/cart":
+		country := bound.Country_Of(request.URL.Query().Get("country"))
+		if err := own.metrics.Shop.Orders.Add(nil, country, 1); err != nil {
+			http.Error(writer, "no such country", http.StatusBadRequest)
+			return
+		}
+		fmt.Fprintln(writer, "ordered")
+	default:
 		http.NotFound(writer, request)
-		return
 	}
-	fmt.Fprintln(writer, "welcome")
 }
 
 // Serves some requests to itself, and prints the page, but for what depends on the clock.
@@ -109,7 +90,7 @@ func show(handler http.Handler) error {
 	defer listener.Close()
 	go func() { _ = http.Serve(listener, handler) }()
 	var page []byte
-	for _, path := range []string{"/", "/cart", "/", "/nothing", "/metrics"} {
+	for _, path := range []string{"/", "/cart?country=de", "/", "/nothing", "/metrics"} {
 		answer, err := http.Get("http://" + listener.Addr().String() + path)
 		if err != nil {
 			return err
