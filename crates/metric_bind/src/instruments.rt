@@ -1,6 +1,6 @@
 //! Meters, their instruments, and the keys of each.
 use crate::drafting::{Draft, names_of_texts, number_text, put_text, text_at};
-use crate::key_types::{KeyType, is_long, type_of};
+use crate::key_types::{KeyType, are_texts, is_long, type_of};
 use crate::quoting::said;
 use crate::tree::{Row, text_of};
 use crate::values::put_flags;
@@ -216,6 +216,8 @@ fn key_row(alloc: Global, draft: &Draft, above: usize, key: &Key, typed: Typed<'
     row.put("of", String::from_str(alloc, own));
     row.put("quoted_key", draft.quoted(alloc, key.name.as_str()));
     row.put_if(alloc, "may", key.optional);
-    put_flags(alloc, &mut row, key.values.as_slice());
+    let values = key.values.as_slice();
+    row.put_if(alloc, "texts", are_texts(values));
+    put_flags(alloc, &mut row, values);
     row
 }

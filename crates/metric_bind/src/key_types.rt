@@ -109,6 +109,13 @@ pub(crate) fn is_flag(values: &[AttrValue]) -> bool {
             .all(|value| matches!(value, AttrValue::Flag(_)))
 }
 
+/// Whether all values are texts.
+pub(crate) fn are_texts(values: &[AttrValue]) -> bool {
+    values
+        .iter()
+        .all(|value| matches!(value, AttrValue::Text(_)))
+}
+
 /// The least and the greatest of more than 16 whole numbers, each of which follows the one before it.
 pub(crate) fn span_of(values: &[AttrValue]) -> Option<(i64, i64)> {
     let [AttrValue::Whole(least), rest @ ..] = values else {

@@ -136,7 +136,7 @@ class _On_$meter$__$on$:
 
     def bind(self$?has_keys$, *$/$$#key$, $key$: $of$$?may$ | None = None$/$$/$) -> _w.Bound:
         """These attributes, for recordings by any recorder, or by one of your own; or raises a `Refusal`."""
-        at = ($#key$$key$, $key$.__class__, $/$)
+        at = ($#key$$key$, $!texts$$key$.__class__, $/$$/$)
         if at in self._bound:
             return self._bound[at]
         said: dict[str, _w.Value] = {}
@@ -153,7 +153,7 @@ $/$
 
     def $?adds$add$/$$!adds$record$/$(self, seat: _w.Recorder, value: int$?has_keys$, *$/$$#key$, $key$: $of$$?may$ | None = None$/$$/$) -> None:
         """$?adds$Adds$/$$!adds$Records$/$ a value, or raises a `Refusal`: nothing is counted then."""
-        own = self._bound.get(($#key$$key$, $key$.__class__, $/$))
+        own = self._bound.get(($#key$$key$, $!texts$$key$.__class__, $/$$/$))
         seat.add(self.bind($#key$$!first$, $/$$key$=$key$$/$) if own is None else own, value)
 $/$
 $/$

@@ -1,6 +1,6 @@
 //! The types of keys, and their values.
 use crate::drafting::{Draft, number_text, put_text, text_at};
-use crate::key_types::{KeyType, is_flag, is_long, labels_of, span_of};
+use crate::key_types::{KeyType, are_texts, is_flag, is_long, labels_of, span_of};
 use crate::naming::{Shape, Style, names_of};
 use crate::quoting::said;
 use crate::tree::Row;
@@ -54,10 +54,7 @@ fn type_row(alloc: Global, draft: &Draft, own: KeyType<'_>, name: &str, upper: &
     let span = span_of(values);
     row.put_if(alloc, "names", !is_flag(values) && span.is_none());
     row.put_if(alloc, "many", is_long(own.key));
-    let is_text = values
-        .iter()
-        .all(|value| matches!(value, AttrValue::Text(_)));
-    row.put_if(alloc, "texts", is_text);
+    row.put_if(alloc, "texts", are_texts(values));
     if let Some((least, most)) = span {
         row.put("least", format!(in alloc; "{least}"));
         row.put("most", format!(in alloc; "{most}"));

@@ -34,7 +34,7 @@ class _On_shop__orders:
 
     def bind(self, *, country: Country) -> _w.Bound:
         """These attributes, for recordings by any recorder, or by one of your own; or raises a `Refusal`."""
-        at = (country, country.__class__, )
+        at = (country, )
         if at in self._bound:
             return self._bound[at]
         said: dict[str, _w.Value] = {}
@@ -43,7 +43,7 @@ class _On_shop__orders:
 
     def add(self, seat: _w.Recorder, value: int, *, country: Country) -> None:
         """Adds a value, or raises a `Refusal`: nothing is counted then."""
-        own = self._bound.get((country, country.__class__, ))
+        own = self._bound.get((country, ))
         seat.add(self.bind(country=country) if own is None else own, value)
 
 

@@ -60,7 +60,7 @@ class _On_http__http_requests:
 
     def bind(self, *, route: Route, status: Status) -> _w.Bound:
         """These attributes, for recordings by any recorder, or by one of your own; or raises a `Refusal`."""
-        at = (route, route.__class__, status, status.__class__, )
+        at = (route, status, status.__class__, )
         if at in self._bound:
             return self._bound[at]
         said: dict[str, _w.Value] = {}
@@ -70,7 +70,7 @@ class _On_http__http_requests:
 
     def add(self, seat: _w.Recorder, value: int, *, route: Route, status: Status) -> None:
         """Adds a value, or raises a `Refusal`: nothing is counted then."""
-        own = self._bound.get((route, route.__class__, status, status.__class__, ))
+        own = self._bound.get((route, status, status.__class__, ))
         seat.add(self.bind(route=route, status=status) if own is None else own, value)
 
 
@@ -84,7 +84,7 @@ class _On_http__http_duration:
 
     def bind(self, *, route: Route) -> _w.Bound:
         """These attributes, for recordings by any recorder, or by one of your own; or raises a `Refusal`."""
-        at = (route, route.__class__, )
+        at = (route, )
         if at in self._bound:
             return self._bound[at]
         said: dict[str, _w.Value] = {}
@@ -93,7 +93,7 @@ class _On_http__http_duration:
 
     def record(self, seat: _w.Recorder, value: int, *, route: Route) -> None:
         """Records a value, or raises a `Refusal`: nothing is counted then."""
-        own = self._bound.get((route, route.__class__, ))
+        own = self._bound.get((route, ))
         seat.add(self.bind(route=route) if own is None else own, value)
 
 
@@ -129,7 +129,7 @@ class _On_shop__orders:
 
     def bind(self, *, country: Country) -> _w.Bound:
         """These attributes, for recordings by any recorder, or by one of your own; or raises a `Refusal`."""
-        at = (country, country.__class__, )
+        at = (country, )
         if at in self._bound:
             return self._bound[at]
         said: dict[str, _w.Value] = {}
@@ -138,7 +138,7 @@ class _On_shop__orders:
 
     def add(self, seat: _w.Recorder, value: int, *, country: Country) -> None:
         """Adds a value, or raises a `Refusal`: nothing is counted then."""
-        own = self._bound.get((country, country.__class__, ))
+        own = self._bound.get((country, ))
         seat.add(self.bind(country=country) if own is None else own, value)
 
 
