@@ -6,7 +6,7 @@ use crate::drafting::{Draft, number_text};
 use crate::engine::filled;
 use crate::fault::BindFault;
 use crate::instruments::{Typed, add_meters};
-use crate::key_types::{is_long, key_types};
+use crate::key_types::{KeyTypes, is_long};
 use crate::language::Language;
 use crate::seats::add_seats;
 use crate::tree::{Named, Row};
@@ -96,10 +96,10 @@ fn drafted(
         .any(|own| own.keys.as_slice().iter().any(is_long));
     file.put_if(alloc, "has_long", has_long);
     draft.add_named(alloc, file, language.own, "each file")?;
-    let types = key_types(alloc, instruments)?;
-    let numbers = add_types(alloc, &mut draft, types.as_slice(), instruments, meters)?;
+    let types = KeyTypes::new(alloc, instruments)?;
+    let numbers = add_types(alloc, &mut draft, types.all(), instruments, meters)?;
     let typed = Typed {
-        types: types.as_slice(),
+        types: &types,
         numbers: numbers.as_slice(),
     };
     add_seats(alloc, &mut draft, recorders)?;

@@ -1,6 +1,6 @@
 //! Meters, their instruments, and the keys of each.
 use crate::drafting::{Draft, names_of_texts, number_text, put_text, text_at};
-use crate::key_types::{KeyType, are_texts, is_long, type_of};
+use crate::key_types::{KeyTypes, are_texts, is_long};
 use crate::quoting::said;
 use crate::tree::{Row, text_of};
 use crate::values::put_flags;
@@ -11,7 +11,7 @@ use std::alloc::{AllocError, Global};
 #[derive(Clone, Copy)]
 pub(crate) struct Typed<'t, 'c> {
     /// The types.
-    pub types: &'t [KeyType<'c>],
+    pub types: &'t KeyTypes<'c>,
     /// The number of each.
     pub numbers: &'t [usize],
 }
@@ -209,7 +209,8 @@ fn add_keys(
 
 // A key without its name.
 fn key_row(alloc: Global, draft: &Draft, above: usize, key: &Key, typed: Typed<'_, '_>) -> Row {
-    let number = type_of(typed.types, key).and_then(|number| typed.numbers.get(number));
+    let number = typed.types.number_of(key);
+    let number = number.and_then(|number| typed.numbers.get(number));
     let link = number.copied().unwrap_or(0);
     let mut row = Row::linked(alloc, "key", above, link);
     let own = text_of(draft.rows.as_slice(), link, "type");

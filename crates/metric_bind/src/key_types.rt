@@ -1,8 +1,11 @@
 //! The types of keys: a key of one name with the same values in the same order is one type, wherever it stands.
+ghost use Rattle.std.specs.Prelude.{◌≤◌, length};
+
 use crate::naming::is_shared;
 use metric_contents::{Instrument, Key, Meter};
 use metric_names::AttrValue;
 use std::alloc::{AllocError, Global};
+use std::cmp::Ordering;
 
 /// A type of keys, by the first key that is of it.
 #[derive(Clone, Copy, Drop)]
@@ -13,41 +16,95 @@ pub(crate) struct KeyType<'c> {
     pub instrument: usize,
 }
 
-/// The types of all keys, each behind those of earlier keys. Fails only when out of memory.
-pub(crate) fn key_types(
-    alloc: Global,
-    instruments: &[Instrument],
-) -> Result<Vec<KeyType<'_>>, AllocError> {
-    let mut types = Vec::new(alloc);
-    for (number, instrument) in instruments.iter().enumerate() {
-        add_types(&mut types, number, instrument)?;
-    }
-    Ok(types)
+/// The types of keys, each behind those of earlier keys.
+#[derive(Drop)]
+pub(crate) struct KeyTypes<'c> {
+    all: Vec<KeyType<'c>>,
+    // Their numbers, by name and values.
+    sorted: Vec<usize>,
 }
 
-fn add_types<'c>(
-    types: &mut Vec<KeyType<'c>>,
-    number: usize,
-    instrument: &'c Instrument,
-) -> Result<(), AllocError> {
-    for key in instrument.keys.as_slice() {
-        if type_of(types.as_slice(), key).is_none() {
-            types.push(KeyType {
-                key,
-                instrument: number,
-            })?;
+impl<'c> KeyTypes<'c> {
+    /// The types of all keys. Fails only when out of memory.
+    pub(crate) fn new(
+        alloc: Global,
+        instruments: &'c [Instrument],
+    ) -> Result<KeyTypes<'c>, AllocError> {
+        let mut types = KeyTypes {
+            all: Vec::new(alloc),
+            sorted: Vec::new(alloc),
+        };
+        for (instrument, own) in instruments.iter().enumerate() {
+            types.add(own.keys.as_slice(), instrument)?;
+        }
+        Ok(types)
+    }
+
+    fn add(&mut self, keys: &'c [Key], instrument: usize) -> Result<(), AllocError> {
+        for key in keys {
+            if self.number_of(key).is_none() {
+                let place = self.place_of(key);
+                self.sorted.insert(place, self.all.len())?;
+                self.all.push(KeyType { key, instrument })?;
+            }
+        }
+        Ok(())
+    }
+
+    /// The types.
+    pub(crate) fn all(&self) -> &[KeyType<'c>] {
+        self.all.as_slice()
+    }
+
+    /// The number of the type that a key is of.
+    pub(crate) fn number_of(&self, key: &Key) -> Option<usize> {
+        let number = *self.sorted.get(self.place_of(key))?;
+        let own = self.all.get(number)?;
+        (key_order(own.key, key) == Ordering::Equal).then_some(number)
+    }
+
+    // Where the first type stands among the sorted ones that is not before a key's.
+    fn place_of(&self, key: &Key) -> usize
+        ensures { result ≤ length self.now.sorted.items }
+    {
+        self.sorted
+            .partition_point(|number| self.is_before(*number, key))
+    }
+
+    fn is_before(&self, number: usize, key: &Key) -> bool {
+        match self.all.get(number) {
+            Some(own) => key_order(own.key, key) == Ordering::Less,
+            None => false,
         }
     }
-    Ok(())
 }
 
-/// The number of the type that a key is of.
-pub(crate) fn type_of(types: &[KeyType<'_>], key: &Key) -> Option<usize> {
-    types.iter().position(|own| is_same(own.key, key))
+// By name, then by values.
+fn key_order(left: &Key, right: &Key) -> Ordering {
+    match left.name.as_str().cmp(right.name.as_str()) {
+        Ordering::Equal => values_order(left.values.as_slice(), right.values.as_slice()),
+        order => order,
+    }
 }
 
-fn is_same(key: &Key, other: &Key) -> bool {
-    key.name.as_str() == other.name.as_str() && key.values.as_slice() == other.values.as_slice()
+fn values_order(left: &[AttrValue], right: &[AttrValue]) -> Ordering {
+    for (left, right) in left.iter().zip(right) {
+        let order = value_order(left, right);
+        if order != Ordering::Equal {
+            return order;
+        }
+    }
+    left.len().cmp(&right.len())
+}
+
+fn value_order(left: &AttrValue, right: &AttrValue) -> Ordering {
+    match (left, right) {
+        (AttrValue::Text(left), AttrValue::Text(right)) => left.as_str().cmp(right.as_str()),
+        (AttrValue::Whole(left), AttrValue::Whole(right)) => left.cmp(right),
+        (AttrValue::Flag(left), AttrValue::Flag(right)) => left.cmp(right),
+        (AttrValue::Text(_), _) | (AttrValue::Whole(_), AttrValue::Flag(_)) => Ordering::Less,
+        _ => Ordering::Greater,
+    }
 }
 
 /// What each type is called: by the name of its key; where another type has that, by its instrument, too, and by its
