@@ -186,9 +186,12 @@ queries_app =
     (texts_rule (codes "label")))
     (files_rule (codes "queries"))
 
--- a command over a catalogue alone, with the language of its code and the file that is compared
+-- a command over a catalogue, which may be without a config, with the language of its code and the
+-- file that is compared
 abbrev pub bound_app : App
-bound_app = with_rule (new_app (codes "bind")) (file_rule (codes "catalogue") true)
+bound_app =
+    with_rule (with_rule (new_app (codes "bind")) (file_rule (codes "catalogue") true))
+    (file_rule (codes "config") false)
 
 abbrev pub bind_app : App
 bind_app =

@@ -20,7 +20,7 @@ pub(crate) fn bind<'a>(alloc: Global) -> Result<Command<'a>, AllocError>
     ensures app { IfOk result (λ command. app_of command ≡ bind_app) }
     ensures local { IfOk result (λ command. (fields_of command).has_globals ≡ false) }
 {
-    let command = over_catalogue(alloc);
+    let command = over_files(alloc);
     let help = "The language: `rust`, `go`, `python`, `c` or `rattle`";
     let language = renamed(alloc, "language", "for", "LANGUAGE", help);
     let command = with_argument(command, language);
@@ -29,14 +29,16 @@ pub(crate) fn bind<'a>(alloc: Global) -> Result<Command<'a>, AllocError>
     with_argument(command, output(alloc))
 }
 
-// The command with its one file.
-fn over_catalogue<'a>(alloc: Global) -> Result<Command<'a>, AllocError>
+// The command with its files, of which the config may be missing.
+fn over_files<'a>(alloc: Global) -> Result<Command<'a>, AllocError>
     ensures app { IfOk result (λ command. app_of command ≡ bound_app) }
     ensures local { IfOk result (λ command. (fields_of command).has_globals ≡ false) }
 {
     let command = Ok(named(alloc, "bind", ABOUT, EXAMPLE));
     let help = "What may be recorded";
-    with_argument(command, file(alloc, "catalogue", "CATALOGUE", help, true))
+    let command = with_argument(command, file(alloc, "catalogue", "CATALOGUE", help, true));
+    let help = "The readers: they become fields too";
+    with_argument(command, file(alloc, "config", "CONFIG", help, false))
 }
 
 // An option that has another name than its words.
