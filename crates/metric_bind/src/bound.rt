@@ -8,6 +8,7 @@ use crate::fault::BindFault;
 use crate::instruments::{Typed, add_meters};
 use crate::key_types::{KeyTypes, is_long};
 use crate::language::Language;
+use crate::readers::add_readers;
 use crate::seats::add_seats;
 use crate::tree::{Named, Row};
 use crate::values::add_types;
@@ -16,7 +17,7 @@ use metric_contents::{Instrument, Meter, Recorder};
 use std::alloc::{AllocError, Global};
 use std::marker::Model;
 
-/// What a file is made of: what a catalogue declares.
+/// What a file is made of: what a catalogue declares, and the readers of a config.
 #[derive(Clone, Copy)]
 pub struct Source<'c> {
     /// The meters.
@@ -25,6 +26,8 @@ pub struct Source<'c> {
     pub instruments: &'c [Instrument],
     /// The recorders.
     pub recorders: &'c [Recorder],
+    /// The names of the readers, where the file is to know them.
+    pub readers: Option<&'c [&'c str]>,
 }
 
 /// A file that was made of a catalogue. A clause sees the names that stand in it, of which no two are the same.
@@ -79,11 +82,36 @@ fn drafted(
         language,
         rows: Vec::new(alloc),
         names: Vec::new(alloc),
+        has_readers: source.readers.is_some(),
     };
+    add_file(alloc, &mut draft, source)?;
     let Source {
         meters,
         instruments,
         recorders,
+        readers,
+    } = source;
+    let types = KeyTypes::new(alloc, instruments)?;
+    let numbers = add_types(alloc, &mut draft, types.all(), instruments, meters)?;
+    let typed = Typed {
+        types: &types,
+        numbers: numbers.as_slice(),
+    };
+    add_seats(alloc, &mut draft, recorders)?;
+    if let Some(readers) = readers {
+        add_readers(alloc, &mut draft, readers)?;
+    }
+    add_meters(alloc, &mut draft, meters, instruments, typed)?;
+    Ok(draft)
+}
+
+// Adds the file itself.
+fn add_file(alloc: Global, draft: &mut Draft, source: Source<'_>) -> Result<(), AllocError> {
+    let Source {
+        instruments,
+        recorders,
+        readers,
+        ..
     } = source;
     let mut file = Row::new(alloc, "", 0);
     file.put("instruments", number_text(alloc, instruments.len()));
@@ -95,17 +123,22 @@ fn drafted(
         .iter()
         .any(|own| own.keys.as_slice().iter().any(is_long));
     file.put_if(alloc, "has_long", has_long);
-    draft.add_named(alloc, file, language.own, "each file")?;
-    let types = KeyTypes::new(alloc, instruments)?;
-    let numbers = add_types(alloc, &mut draft, types.all(), instruments, meters)?;
-    let typed = Typed {
-        types: &types,
-        numbers: numbers.as_slice(),
+    let language = draft.language;
+    let Some(readers) = readers else {
+        draft.add_named(alloc, file, language.own, EACH_FILE)?;
+        return Ok(());
     };
-    add_seats(alloc, &mut draft, recorders)?;
-    add_meters(alloc, &mut draft, meters, instruments, typed)?;
-    Ok(draft)
+    file.put("readers", number_text(alloc, readers.len()));
+    file.put_if(alloc, "has_readers", !readers.is_empty());
+    draft.add_named(alloc, file, language.own, EACH_FILE)?;
+    for name in language.readers.own {
+        draft.add_name(alloc, String::from_str(alloc, name)?, EACH_FILE)?;
+    }
+    Ok(())
 }
+
+// Whose the names are that do not come from a catalogue.
+const EACH_FILE: &str = "each file";
 
 // The fault that two things have one name.
 fn clash_of(alloc: Global, first: &Named, second: &Named) -> Result<BindFault, AllocError> {

@@ -1,5 +1,5 @@
 //! The file for C.
-use crate::language::{Language, Names};
+use crate::language::{Language, Names, Readers};
 use crate::naming::{Shape, Style};
 use crate::quoting::Quotes;
 
@@ -57,6 +57,24 @@ pub static C: Language = Language {
             taken: &[],
         },
         whole: &["BOUND_RECORDER_$seat$"],
+    },
+    readers: Readers {
+        names: Names {
+            style: Style {
+                shape: Shape::Upper,
+                taken: &[],
+            },
+            whole: &["BOUND_READER_$reader$"],
+        },
+        own: &["BOUND_READERS", "bound_reader"],
+        types: Style {
+            shape: Shape::Snake,
+            taken: &[&["reader"]],
+        },
+        meters: Style {
+            shape: Shape::Snake,
+            taken: &[],
+        },
     },
     has_lists: false,
     quotes: Quotes::Octal,
@@ -171,7 +189,7 @@ const HEAD: &str =
 extern "C" {
 #endif
 
-enum { BOUND_INSTRUMENTS = $instruments$, BOUND_RECORDERS = $recorders$ };
+enum { BOUND_INSTRUMENTS = $instruments$, BOUND_RECORDERS = $recorders$$?readers$, BOUND_READERS = $readers$$/$ };
 $?has_seats$
 
 /* The recorders by their places in the list that wormweekly_open fills. */
@@ -180,6 +198,15 @@ $#seat$
 $#one$
     BOUND_RECORDER_$seat$ = $place$,
 $/$
+$/$
+};
+$/$
+$?has_readers$
+
+/* The readers by their places in the list that wormweekly_open fills. */
+enum bound_reader {
+$#reader$
+    BOUND_READER_$reader$ = $place$,
 $/$
 };
 $/$

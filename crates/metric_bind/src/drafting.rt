@@ -1,7 +1,7 @@
 //! A file, as far as it is drafted.
 use crate::engine::filled;
-use crate::language::{Language, Names};
-use crate::naming::names_of;
+use crate::language::Language;
+use crate::naming::{Style, names_of};
 use crate::quoting::{quoted, said};
 use crate::tree::{Named, Row};
 use metric_base::Text;
@@ -17,6 +17,8 @@ pub(crate) struct Draft {
     pub rows: Vec<Row>,
     /// The names.
     pub names: Vec<Named>,
+    /// Whether readers are known by their names.
+    pub has_readers: bool,
 }
 
 impl Draft {
@@ -59,6 +61,24 @@ impl Draft {
         Ok(())
     }
 
+    /// How the types of keys are named.
+    pub(crate) fn types(&self) -> Style {
+        if self.has_readers {
+            self.language.readers.types
+        } else {
+            self.language.types.style
+        }
+    }
+
+    /// How meters are named.
+    pub(crate) fn meters(&self) -> Style {
+        if self.has_readers {
+            self.language.readers.meters
+        } else {
+            self.language.meters.style
+        }
+    }
+
     /// A text in the quotes of the language.
     pub(crate) fn quoted(&self, alloc: Global, text: &str) -> Result<String, AllocError> {
         quoted(alloc, text, self.language.quotes)
@@ -69,13 +89,13 @@ impl Draft {
 pub(crate) fn names_of_texts(
     alloc: Global,
     texts: &[&str],
-    names: Names,
+    style: Style,
 ) -> Result<Vec<String>, AllocError> {
     let mut things = Vec::new(alloc);
     for text in texts {
         things.push(ValueRef::Text(*text))?;
     }
-    names_of(alloc, things.as_slice(), names.style)
+    names_of(alloc, things.as_slice(), style)
 }
 
 /// The text of a number in decimal. Fails only when out of memory.

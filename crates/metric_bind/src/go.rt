@@ -1,5 +1,5 @@
 //! The file for Go.
-use crate::language::{Language, Names};
+use crate::language::{Language, Names, Readers};
 use crate::naming::{Shape, Style};
 use crate::quoting::Quotes;
 
@@ -48,6 +48,24 @@ pub static GO: Language = Language {
         },
         whole: &["Recorders.$seat$"],
     },
+    readers: Readers {
+        names: Names {
+            style: Style {
+                shape: Shape::Camel,
+                taken: &[],
+            },
+            whole: &["Readers.$reader$"],
+        },
+        own: &[],
+        types: Style {
+            shape: Shape::Camel,
+            taken: &[&TYPES, &READERS],
+        },
+        meters: Style {
+            shape: Shape::Camel,
+            taken: &[&FIELDS, &READERS],
+        },
+    },
     has_lists: true,
     quotes: Quotes::Eight,
     code: &[HEAD, TYPE, INSTRUMENT, METERS, OPEN, OVER],
@@ -57,6 +75,9 @@ const TYPES: [&str; 4] = ["Metrics", "Open", "Over", "Recorders"];
 
 // The fields beside the meters.
 const FIELDS: [&str; 2] = ["Own", "Recorders"];
+
+// The type and the field of readers.
+const READERS: [&str; 1] = ["Readers"];
 
 const WORDS: [&str; 25] = [
     "break",
@@ -180,6 +201,11 @@ $/$
 $t$// Recorders has the recorders by their names.
 $t$Recorders Recorders
 
+$?readers$
+$t$// Readers has the readers by their names.
+$t$Readers Readers
+
+$/$
 $t$// Own has the host's own calls.
 $t$Own *w.Metrics
 }
@@ -194,6 +220,19 @@ $t$// $seat$ is $?list$a list by its numbers$/$$!list$a recorder$/$.
 $t$$seat$ $?list$[]$/$*w.Recorder
 $/$
 }
+$?readers$
+
+// Readers are the readers by their names.
+type Readers struct {
+$#reader$
+$!first$
+
+$/$
+$t$// $reader$ is $said_reader$.
+$t$$reader$ *w.Reader
+$/$
+}
+$/$
 "#;
 
 const OPEN: &str = r#"
@@ -248,6 +287,12 @@ $t$if err != nil {
 $t$$t$return nil, err
 $t$}
 $/$
+$/$
+$#reader$
+$t$all.Readers.$reader$, err = own.Reader($quoted_reader$)
+$t$if err != nil {
+$t$$t$return nil, err
+$t$}
 $/$
 $t$return all, err
 }

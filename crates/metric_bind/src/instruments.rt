@@ -28,8 +28,7 @@ pub(crate) fn add_meters(
     for meter in meters {
         texts.push(meter.name.as_str())?;
     }
-    let language = draft.language;
-    let names = names_of_texts(alloc, texts.as_slice(), language.meters)?;
+    let names = names_of_texts(alloc, texts.as_slice(), draft.meters())?;
     for (number, meter) in meters.iter().enumerate() {
         if instruments.iter().any(|own| own.meter as usize == number) {
             let name = text_at(names.as_slice(), number);
@@ -71,7 +70,7 @@ fn add_instruments(
         }
     }
     let language = draft.language;
-    let names = names_of_texts(alloc, texts.as_slice(), language.instruments)?;
+    let names = names_of_texts(alloc, texts.as_slice(), language.instruments.style)?;
     let mut place = 0usize;
     for (number, instrument) in instruments.iter().enumerate() {
         if instrument.meter as usize == meter {
@@ -194,7 +193,7 @@ fn add_keys(
         texts.push(key.name.as_str())?;
     }
     let language = draft.language;
-    let names = names_of_texts(alloc, texts.as_slice(), language.keys)?;
+    let names = names_of_texts(alloc, texts.as_slice(), language.keys.style)?;
     for (number, key) in instrument.keys.as_slice().iter().enumerate() {
         let mut row = key_row(alloc, draft, above, key, typed);
         row.put(

@@ -11,6 +11,19 @@ pub(crate) struct Names {
     pub whole: &'static [&'static str],
 }
 
+/// What a file has where readers are known by their names, too.
+#[derive(Clone, Copy, Drop)]
+pub(crate) struct Readers {
+    /// The names of the readers.
+    pub names: Names,
+    /// The names that such a file has beside those of each file.
+    pub own: &'static [&'static str],
+    /// How the types of keys are named there.
+    pub types: Style,
+    /// How meters are named there.
+    pub meters: Style,
+}
+
 /// A language that code is made for: its names, its quotes, and the templates of a file.
 #[derive(Clone, Copy, Drop)]
 pub struct Language {
@@ -28,6 +41,8 @@ pub struct Language {
     pub(crate) keys: Names,
     /// Those of recorders.
     pub(crate) seats: Names,
+    /// What comes with readers.
+    pub(crate) readers: Readers,
     /// Whether recorders that are numbered from 0 are a list.
     pub(crate) has_lists: bool,
     /// How texts are quoted.

@@ -20,6 +20,7 @@ mod pieces;
 mod python;
 mod quoting;
 mod rattle;
+mod readers;
 mod rust;
 mod seats;
 mod tree;

@@ -1,5 +1,5 @@
 //! The file for Python.
-use crate::language::{Language, Names};
+use crate::language::{Language, Names, Readers};
 use crate::naming::{Shape, Style};
 use crate::quoting::Quotes;
 
@@ -21,10 +21,7 @@ pub static PYTHON: Language = Language {
         whole: &[],
     },
     meters: Names {
-        style: Style {
-            shape: Shape::Snake,
-            taken: &[&WORDS, &FIELDS],
-        },
+        style: FIELD,
         whole: &["_Meter_$meter$"],
     },
     instruments: Names {
@@ -48,9 +45,30 @@ pub static PYTHON: Language = Language {
         },
         whole: &["Recorders.$seat$"],
     },
+    readers: Readers {
+        names: Names {
+            style: Style {
+                shape: Shape::Snake,
+                taken: &[&WORDS, &["own"]],
+            },
+            whole: &["Readers.$reader$"],
+        },
+        own: &[],
+        types: Style {
+            shape: Shape::Camel,
+            taken: &[&TYPES, &["Readers"]],
+        },
+        meters: FIELD,
+    },
     has_lists: true,
     quotes: Quotes::Eight,
     code: &[HEAD, INSTRUMENT, METERS, METRICS],
+};
+
+// A meter, as a field.
+const FIELD: Style = Style {
+    shape: Shape::Snake,
+    taken: &[&WORDS, &FIELDS],
 };
 
 const TYPES: [&str; 15] = [
@@ -194,7 +212,8 @@ class Metrics:
     def __init__(self, own: _w.Metrics) -> None:
         """Compares a run that is opened with what this file was made of."""
         self.own = own
-        self.readers = own.readers
+        self.readers = $?readers$Readers(own)$/$$!readers$own.readers$/$
+
         self.recorders = Recorders(own)
 $#meter$
         self.$meter$ = _Meter_$meter$(own)
@@ -214,5 +233,17 @@ class Recorders:
 $#seat$
         self.$seat$ = $?list$[$/$$#one$own.recorder($quoted_seat$)$?list$, $/$$/$$?list$]$/$
 
+$/$
+$?readers$
+
+
+class Readers:
+    """The readers by their names."""
+
+    def __init__(self, own: _w.Metrics) -> None:
+        self.own = own.readers
+$#reader$
+        self.$reader$ = own.reader($quoted_reader$)
+$/$
 $/$
 "#;

@@ -1,5 +1,5 @@
 //! The file for Rattle.
-use crate::language::{Language, Names};
+use crate::language::{Language, Names, Readers};
 use crate::naming::{Shape, Style};
 use crate::quoting::Quotes;
 
@@ -42,14 +42,28 @@ pub static RATTLE: Language = Language {
         style: FIELD,
         whole: &[],
     },
+    readers: Readers {
+        names: Names {
+            style: FIELD,
+            whole: &["Readers.$reader$"],
+        },
+        own: &[],
+        types: TYPE_BESIDE_READERS,
+        meters: TYPE_BESIDE_READERS,
+    },
     has_lists: false,
     quotes: Quotes::Braces,
-    code: &[HEAD, LONG, TYPE, TABLE, SPAN, INSTRUMENT, METERS],
+    code: &[HEAD, LONG, TYPE, TABLE, SPAN, INSTRUMENT, METERS, READERS],
 };
 
 const FIELD: Style = Style {
     shape: Shape::Snake,
     taken: &[&WORDS, &KEPT],
+};
+
+const TYPE_BESIDE_READERS: Style = Style {
+    shape: Shape::Camel,
+    taken: &[&TYPES, &["Readers"]],
 };
 
 // Types that the file or its language has, and names that Rattle keeps.
@@ -376,6 +390,35 @@ impl $meter$ {
         Ok($meter$ {
 $#instrument$
             $on$: On_$meter$__$on$::of(plan)?,
+$/$
+        })
+    }
+}
+$/$
+"#;
+
+const READERS: &str = r#"$?readers$
+
+#[rattlefmt::skip]
+use metric_sdk::{Collector as Collector_, take_reader as take_reader_};
+
+/// The readers.
+#[derive(Drop)]
+#[rattlefmt::skip]
+pub struct Readers {
+$#reader$
+    /// `$said_reader$`
+    pub $reader$: Collector_,
+$/$
+}
+
+#[rattlefmt::skip]
+impl Readers {
+    /// The readers of a plan, each taken out of a list; none where one of them is not there.
+    pub fn of(plan: &Plan_, seats: &mut Vec<Collector_>) -> Option<Readers> {
+        Some(Readers {
+$#reader$
+            $reader$: take_reader_(plan, seats, $quoted_reader$)?,
 $/$
         })
     }

@@ -1,5 +1,5 @@
 //! The file for Rust.
-use crate::language::{Language, Names};
+use crate::language::{Language, Names, Readers};
 use crate::naming::{Shape, Style};
 use crate::quoting::Quotes;
 
@@ -39,10 +39,22 @@ pub static RUST: Language = Language {
         style: FIELD,
         whole: &["Recorders.$seat$"],
     },
+    readers: Readers {
+        names: Names {
+            style: FIELD,
+            whole: &["Readers.$reader$"],
+        },
+        own: &[],
+        types: Style {
+            shape: Shape::Camel,
+            taken: &[&TYPES, &["Readers"]],
+        },
+        meters: FIELD,
+    },
     has_lists: true,
     quotes: Quotes::Braces,
     code: &[
-        HEAD, TYPE, SPAN, INSTRUMENT, METERS, FAULT, OPEN, EXPECTED, BOUND, SHARED,
+        HEAD, TYPE, SPAN, INSTRUMENT, METERS, OPENED, FAULT, OPEN, EXPECTED, READERS, BOUND, SHARED,
     ],
 };
 
@@ -254,12 +266,24 @@ $!list$
 $/$
 $/$
 }
+"#;
+
+const OPENED: &str = r#"$?readers$
+
+/// The readers.
+pub struct Readers {
+$#reader$
+    /// `$said_reader$`
+    pub $reader$: Reader_,
+$/$
+}
+$/$
 
 /// What is opened.
 pub struct Opened {
     pub metrics: Metrics,
     pub recorders: Recorders,
-    pub readers: Vec<Reader_>,
+    pub readers: $?readers$Readers$/$$!readers$Vec<Reader_>$/$,
     pub warnings: String,
     /// The host's own calls.
     pub own: wormweekly::Metrics,
@@ -268,7 +292,7 @@ pub struct Opened {
 /// What is opened, and shared by threads: any of them records by any recorder.
 pub struct Shared {
     pub metrics: Metrics$?has_instruments$<SharedInstrument_>$/$,
-    pub readers: Vec<Reader_>,
+    pub readers: $?readers$Readers$/$$!readers$Vec<Reader_>$/$,
     pub warnings: String,
     /// The host's own calls.
     pub own: Shared_,
@@ -284,6 +308,10 @@ pub enum BindFault {
     Other(MeaningFault_),
     /// There is no recorder of this name: run `wormweekly bind` again.
     Seat(&'static str),
+$?readers$
+    /// There is no reader of this name: run `wormweekly bind` again.
+    Reader(&'static str),
+$/$
 }
 
 impl std::fmt::Display for BindFault {
@@ -292,6 +320,9 @@ impl std::fmt::Display for BindFault {
             BindFault::Open(own) => write!(f, "{own}"),
             BindFault::Other(own) => write!(f, "{own}: run `wormweekly bind` again"),
             BindFault::Seat(name) => write!(f, "there is no recorder {name}: run `wormweekly bind` again"),
+$?readers$
+            BindFault::Reader(name) => write!(f, "there is no reader {name}: run `wormweekly bind` again"),
+$/$
         }
     }
 }
@@ -346,6 +377,23 @@ $/$
 }
 "#;
 
+const READERS: &str = r#"$?readers$
+
+fn reader_(readers: &mut Vec<Reader_>, name: &'static str) -> Result<Reader_, BindFault> {
+    let at = readers.iter().position(|own| own.name() == name).ok_or(BindFault::Reader(name))?;
+    Ok(readers.remove(at))
+}
+
+fn readers_(mut readers: Vec<Reader_>) -> Result<Readers, BindFault> {
+    Ok(Readers {
+$#reader$
+        $reader$: reader_(&mut readers, $quoted_reader$)?,
+$/$
+    })
+}
+$/$
+"#;
+
 const BOUND: &str = r#"
 /// Compares a run that is opened with what this file was made of.
 pub fn bound(opened: Opened_) -> Result<Opened, BindFault> {
@@ -367,6 +415,9 @@ $/$
 $/$
 $/$
     };
+$?readers$
+    let readers = readers_(readers)?;
+$/$
     Ok(Opened { metrics, recorders, readers, warnings, own })
 }
 "#;
@@ -387,6 +438,9 @@ $/$
         },
 $/$
     };
+$?readers$
+    let readers = readers_(readers)?;
+$/$
     Ok(Shared { metrics, readers, warnings, own: all })
 }
 "#;

@@ -25,7 +25,7 @@ pub(crate) fn add_seats(
         texts.push(seat.name)?;
     }
     let language = draft.language;
-    let names = names_of_texts(alloc, texts.as_slice(), language.seats)?;
+    let names = names_of_texts(alloc, texts.as_slice(), language.seats.style)?;
     for (number, seat) in seats.iter().enumerate() {
         add_seat(
             alloc,

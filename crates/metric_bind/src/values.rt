@@ -21,8 +21,7 @@ pub(crate) fn add_types(
     for label in &labels {
         things.push(ValueRef::Text(label.as_str()))?;
     }
-    let language = draft.language;
-    let names = names_of(alloc, things.as_slice(), language.types.style)?;
+    let names = names_of(alloc, things.as_slice(), draft.types())?;
     let uppers = names_of(alloc, things.as_slice(), UPPER)?;
     let mut numbers = Vec::new(alloc);
     for (number, own) in types.iter().enumerate() {

@@ -129,6 +129,7 @@ fn code_of(
         meters: catalogue.meters(),
         instruments: catalogue.instruments(),
         recorders: catalogue.recorders(),
+        readers: None,
     };
     let language = match language {
         Some(Language::C) => &C,
