@@ -64,7 +64,7 @@ def shop(environ: WSGIEnvironment, start_response: StartResponse) -> Iterable[by
 metrics = Metrics.open(CATALOGUE, CONFIG, reopen_in_child=True)
 folder = os.environ.get("SHOP_METRICS") or tempfile.mkdtemp()
 pages = PageFolder(folder, metrics, metrics.reader("prometheus"), {"service.name": "shop"})
-application = Wsgi(shop, Measures(metrics), page=pages.page)
+application = Wsgi(shop, Measures(metrics), page=pages.answer)
 
 
 class Quiet(WSGIRequestHandler):

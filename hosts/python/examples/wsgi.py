@@ -72,7 +72,7 @@ def opened() -> bound.Metrics:
 def measured(application: WSGIApplication, metrics: bound.Metrics) -> Wsgi:
     """The application, measured."""
     page = Page(metrics.own, metrics.own.reader("prometheus"), {"service.name": "shop"})
-    return Wsgi(application, Measures(metrics.own), page=page.bytes)
+    return Wsgi(application, Measures(metrics.own), page=page.answer)
 
 
 def get(url: str) -> str:

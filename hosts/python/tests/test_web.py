@@ -20,10 +20,15 @@ from typing import Any
 from wsgiref.util import setup_testing_defaults
 
 from tests.plans import CATALOGUE, CONFIG
-from wormweekly import Metrics, Total
+from wormweekly import Dialect, Metrics, Total
 from wormweekly.web import Asgi, Measures, Message, Receive, Scope, Send, Wsgi
 
+OPEN_METRICS = "application/openmetrics-text"
 EXAMPLES = os.path.join(os.path.dirname(os.path.dirname(os.path.abspath(__file__))), "examples")
+
+
+def a_page(accept: str) -> tuple[Dialect, bytes]:
+    return Dialect.accepted(accept), b"a page"
 
 
 class Measured(unittest.TestCase):
@@ -51,7 +56,7 @@ class Measured(unittest.TestCase):
             start_response("404 Not Found" if environ["PATH_INFO"] == "/none" else "200 OK", [])
             return iter([b"a", b"b"])
 
-        wsgi = Wsgi(application, self.measures, page=lambda: b"a page")
+        wsgi = Wsgi(application, self.measures, page=a_page)
         told: list[Any] = []
         for path in ("/", "/cart", "/none", "/metrics", "/fault"):
             environ: dict[str, Any] = {"PATH_INFO": path}
@@ -85,7 +90,7 @@ class Measured(unittest.TestCase):
             sent.append(message)
 
         async def serve() -> None:
-            asgi = Asgi(application, self.measures, page=lambda: b"a page")
+            asgi = Asgi(application, self.measures, page=a_page)
             scopes: list[Scope] = [{"type": "http", "method": "GET", "path": path} for path in ("/", "/fault", "/metrics")]
             await asyncio.gather(*(asgi(scope, receive, send) for scope in scopes), return_exceptions=True)
             await asgi({"type": "lifespan"}, receive, send)
@@ -95,13 +100,16 @@ class Measured(unittest.TestCase):
         self.assertIn(b"a page", [message.get("body") for message in sent])
         self.check_ends(2)
 
-    def test_a_page_is_packed_where_that_is_taken(self) -> None:
-        environ: dict[str, Any] = {"PATH_INFO": "/metrics", "HTTP_ACCEPT_ENCODING": "gzip, deflate"}
+    def test_a_page_is_what_is_asked_for(self) -> None:
+        asks = {"HTTP_ACCEPT": OPEN_METRICS, "HTTP_ACCEPT_ENCODING": "gzip, deflate"}
+        environ: dict[str, Any] = {"PATH_INFO": "/metrics", **asks}
         setup_testing_defaults(environ)
         told: list[Any] = []
-        wsgi = Wsgi(lambda *_: [], self.measures, page=lambda: b"a page")
+        wsgi = Wsgi(lambda *_: [], self.measures, page=a_page)
         (body,) = wsgi(environ, lambda *rest: told.append(rest))  # type: ignore[arg-type]
-        self.assertEqual((gzip.decompress(body), dict(told[0][1])["Content-Encoding"]), (b"a page", "gzip"))
+        named = dict(told[0][1])
+        self.assertEqual((gzip.decompress(body), named["Content-Encoding"]), (b"a page", "gzip"))
+        self.assertEqual(named["Content-Type"], Dialect.OPEN_METRICS.content_type)
 
         async def receive() -> Message:
             return {}
@@ -109,10 +117,12 @@ class Measured(unittest.TestCase):
         async def send(message: Message) -> None:
             told.append(message)
 
-        asgi = Asgi(lambda *_: asyncio.sleep(0), self.measures, page=lambda: b"a page")
-        scope: Scope = {"type": "http", "method": "GET", "path": "/metrics", "headers": [(b"accept-encoding", b"gzip")]}
+        asgi = Asgi(lambda *_: asyncio.sleep(0), self.measures, page=a_page)
+        headers = [(b"accept", b"text/plain;q=0.1"), (b"accept", OPEN_METRICS.encode()), (b"accept-encoding", b"gzip")]
+        scope: Scope = {"type": "http", "method": "GET", "path": "/metrics", "headers": headers}
         asyncio.run(asgi(scope, receive, send))
         self.assertIn((b"content-encoding", b"gzip"), told[1]["headers"])
+        self.assertIn((b"content-type", Dialect.OPEN_METRICS.content_type.encode()), told[1]["headers"])
         self.assertEqual(gzip.decompress(told[2]["body"]), b"a page")
 
     def test_ten_thousand_tasks(self) -> None:

@@ -1,6 +1,6 @@
 """Web applications that are measured, as WSGI and ASGI have them.
 
-    application = Wsgi(application, Measures(metrics, route=route_of), page=Page(metrics, reader).bytes)
+    application = Wsgi(application, Measures(metrics, route=route_of), page=Page(metrics, reader).answer)
 
 A request counts when its answer ends, whatever becomes of it. The instruments are told of a method, a route and a
 status as far as they declare the keys `method`, `route` and `status`; what they do not declare of these is recorded as
@@ -24,7 +24,7 @@ if TYPE_CHECKING:
 
 __all__ = ["Asgi", "Measures", "Wsgi"]
 
-Page = Callable[[], bytes]
+Page = Callable[[str], tuple[Dialect, bytes]]  # for whoever asks with this header `Accept`
 Scope = MutableMapping[str, Any]
 Message = MutableMapping[str, Any]
 Receive = Callable[[], Awaitable[Message]]
@@ -106,7 +106,8 @@ class Wsgi:
     def __call__(self, environ: WSGIEnvironment, start_response: StartResponse) -> Iterable[bytes]:
         path = environ.get("PATH_INFO", "")
         if self._page is not None and path == self._at:
-            headers, served = _served(self._page, environ.get("HTTP_ACCEPT_ENCODING", ""))
+            accepted, packing = (environ.get(name, "") for name in ("HTTP_ACCEPT", "HTTP_ACCEPT_ENCODING"))
+            headers, served = _served(self._page, accepted, packing)
             start_response("200 OK", headers)
             return [served]
         request = self._measures.begin(environ["REQUEST_METHOD"], path)
@@ -156,8 +157,8 @@ class Asgi:
         if scope["type"] != "http":
             await self._application(scope, receive, send)
         elif self._page is not None and scope["path"] == self._at:
-            accepted = b",".join(value for name, value in scope.get("headers", ()) if name == b"accept-encoding")
-            named, body = await asyncio.to_thread(_served, self._page, accepted.decode("latin-1"))
+            accepted, packing = (_header(scope, name) for name in (b"accept", b"accept-encoding"))
+            named, body = await asyncio.to_thread(_served, self._page, accepted, packing)
             headers = [(name.lower().encode(), value.encode()) for name, value in named]
             await send({"type": "http.response.start", "status": 200, "headers": headers})
             await send({"type": "http.response.body", "body": body})
@@ -178,10 +179,16 @@ class Asgi:
             request.end()
 
 
-def _served(page: Page, accepted: str) -> tuple[list[tuple[str, str]], bytes]:
-    """The headers and the body of a page, packed where this header `Accept-Encoding` takes that."""
-    headers, body = [("Content-Type", Dialect.TEXT.content_type), ("Vary", "Accept-Encoding")], page()
-    if accepts_gzip(accepted):
+def _header(scope: Scope, wanted: bytes) -> str:
+    """What a request says in all its headers of a name."""
+    return b",".join(value for name, value in scope.get("headers", ()) if name == wanted).decode("latin-1")
+
+
+def _served(page: Page, accepted: str, packing: str) -> tuple[list[tuple[str, str]], bytes]:
+    """The headers and the body of a page, for these headers `Accept` and `Accept-Encoding`."""
+    dialect, body = page(accepted)
+    headers = [("Content-Type", dialect.content_type), ("Vary", "Accept, Accept-Encoding")]
+    if accepts_gzip(packing):
         body = gzip.compress(body, 6)
         headers.append(("Content-Encoding", "gzip"))
     return [*headers, ("Content-Length", str(len(body)))], body

@@ -23,7 +23,7 @@ from contextlib import contextmanager
 from pathlib import Path
 from typing import IO
 
-from wormweekly import Attributes, Ended, Metrics, Reader, ThreadRefusal
+from wormweekly import Attributes, Dialect, Ended, Metrics, Reader, ThreadRefusal
 from wormweekly._metrics import at_fork
 from wormweekly.exporters.pages import Gauge, Page, Pages, no_gauge
 
@@ -82,6 +82,10 @@ class PageFolder:
             for path in sorted(self._folder.glob("*-*.page")):
                 made.add(_read(path), _of_process(path))
         return made.text().encode()
+
+    def answer(self, accept: str) -> tuple[Dialect, bytes]:
+        """The same for `wormweekly.web`, whatever a request accepts."""
+        return Dialect.TEXT, self.page()
 
     def take(self, ended: Ended) -> None:
         """Adds a run that ended to this process's page."""
