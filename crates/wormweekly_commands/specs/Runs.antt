@@ -1,12 +1,13 @@
 -- What running a request does.
 use Rattle.std.specs.Prelude.{◌≡◌, ◌≢◌, ◌⊎◌, ℕ, Bool, false, true, not, List, Option, Some, None, Result, Ok}
-use Rattle.std.specs.Prelude.{Err, IfErr, IfOk, IfSome, IsErr, IsErrAnd, IsOkAnd, IsSomeAnd, OnErr, is_some, slice_get, string_bytes}
+use Rattle.std.specs.Prelude.{Err, IfErr, IfOk, IfSome, IsErr, IsErrAnd, IsOk, IsOkAnd, IsSomeAnd, OnErr, [], is_some, slice_get, string_bytes}
 use Rattle.std.specs.List.{list_any}
 use Rattle.std.specs.Str.{bytes_eq}
 use Rattle.metric_contents.specs.declared.contents.Contents.{Contents}
 use Rattle.metric_catalogue.specs.Catalogues.{catalogue_of, opened_of}
 use Rattle.metric_catalogue.specs.InFull.{fits_in_full}
 use Rattle.metric_parts.specs.declared.parts.Parts.{Parts}
+use Rattle.metric_views.specs.Configs.{config_of}
 use Rattle.metric_command_lines.specs.declared.wormweekly.request.Files.{Files}
 use Rattle.metric_command_lines.specs.declared.wormweekly.request.Request.{Request}
 use Rattle.metric_command_lines.specs.declared.wormweekly.request.Task.{Task}
@@ -329,15 +330,23 @@ IsPut known None files code writing =
     IsDelivered files.output code writing.made writing.made_after writing.contents writing.contents_after
 IsPut known (Some path) files code writing = IsHeld known.held path code × IsUntouched writing
 
--- Code is made of the catalogue that the file is.
+-- The parts are the texts of the catalogue and, where the request names one, of the config; the output is neither file.
+pub record AreSources (held : List ℕ → Option (List ℕ)) (files : Files) (parts : Parts) : Type 0
+  where
+    pub is_held : IsHeld held files.catalogue parts.catalogue
+    pub apart : IsSomeAnd files.output (λ path. path ≡ files.catalogue) → ⊥
+    pub config_is_held : files.config ≢ [] → IsHeld held files.config parts.config
+    pub config_apart : files.config ≢ [] → IsSomeAnd files.output (λ path. path ≡ files.config) → ⊥
+
+-- Code is made of the catalogue that the file is, with the config where the request names one.
 pub record IsBound (known : Known) (files : Files) (writing : Writing) : Type 0 where
-  pub source : List ℕ
+  pub parts : Parts
   pub contents : Contents
   pub code : List ℕ
-  pub is_held : IsHeld known.held files.catalogue source
-  pub opened : opened_of source ≡ Ok contents
+  pub are_sources : AreSources known.held files parts
+  pub opened : opened_of parts.catalogue ≡ Ok contents
+  pub config_read : files.config ≢ [] → IsOk (config_of parts.config)
   pub put : IsPut known files.bound files code writing
-  pub apart : IsSomeAnd files.output (λ path. path ≡ files.catalogue) → ⊥
 
 -- The fault is the first of a catalogue, or memory ran out.
 abbrev pub IsSourceFault : List ℕ → ConsoleFault → Type 0
@@ -348,31 +357,53 @@ IsSourceFault source _ = ⊥
 -- The catalogue that the file is is refused, and nothing is written.
 pub record RefusesSource (known : Known) (files : Files) (writing : Writing) (status : ℕ) : Type 0
   where
-    pub source : List ℕ
+    pub parts : Parts
     pub fault : ConsoleFault
-    pub is_held : IsHeld known.held files.catalogue source
-    pub first : IsSourceFault source fault
+    pub are_sources : AreSources known.held files parts
+    pub first : IsSourceFault parts.catalogue fault
     pub untouched : IsUntouched writing
     pub is_status : status ≡ status_of fault
 
--- No code is made of a catalogue that can be read, or other code than a file has, and nothing is written.
+-- The fault is the first of a config, or memory ran out.
+abbrev pub IsSetupFault : List ℕ → ConsoleFault → Type 0
+IsSetupFault config (Kit (kit.Config fault)) = config_of config ≡ Err fault
+IsSetupFault config (Unread Config unread.Memory) = Unit {0}
+IsSetupFault config _ = ⊥
+
+-- The config that a file is is refused, where the catalogue can be read, and nothing is written.
+pub record RefusesSetup (known : Known) (files : Files) (writing : Writing) (status : ℕ) : Type 0
+  where
+    pub parts : Parts
+    pub contents : Contents
+    pub fault : ConsoleFault
+    pub are_sources : AreSources known.held files parts
+    pub opened : opened_of parts.catalogue ≡ Ok contents
+    pub named : files.config ≢ []
+    pub first : IsSetupFault parts.config fault
+    pub untouched : IsUntouched writing
+    pub is_status : status ≡ status_of fault
+
+-- No code is made of files that can be read, or other code than a file has, and nothing is written.
 pub record RefusesCode (known : Known) (files : Files) (writing : Writing) (status : ℕ) : Type 0
   where
-    pub source : List ℕ
+    pub parts : Parts
     pub contents : Contents
-    pub is_held : IsHeld known.held files.catalogue source
-    pub opened : opened_of source ≡ Ok contents
+    pub are_sources : AreSources known.held files parts
+    pub opened : opened_of parts.catalogue ≡ Ok contents
+    pub config_read : files.config ≢ [] → IsOk (config_of parts.config)
     pub untouched : IsUntouched writing
     pub is_status : status ≡ 1
 
 -- # what making code does (profile) [BindsFile]
--- Code of the catalogue is written, or compared; or the catalogue is refused by its first fault, or no code is made of
--- it, and nothing is written; or a file is not read or not written. The exit status says which.
+-- Code of the catalogue, and of the config where the request names one, is written, or compared; or the catalogue is
+-- refused by its first fault, or else the config, or no code is made of them, and nothing is written; or a file is not
+-- read or not written. The exit status says which.
 abbrev pub BindsFile : Known → Files → Writing → ℕ → Type 0
 BindsFile known files writing status =
     ((status ≡ 0) × IsBound known files writing)
     ⊎ (RefusesSource known files writing status
-    ⊎ (RefusesCode known files writing status ⊎ StopsExpansion writing status))
+    ⊎ (RefusesSetup known files writing status
+    ⊎ (RefusesCode known files writing status ⊎ StopsExpansion writing status)))
 
 -- # what running a request does (profile)
 -- A catalogue is expanded, code made of one, or another command run, and the end is told by the exit status.

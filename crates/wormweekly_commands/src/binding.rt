@@ -1,12 +1,13 @@
 //! The command that makes code of a catalogue.
-ghost use Rattle.std.specs.Prelude.{◌≡◌, Ok, IfErr, IfOk, IsSomeAnd, true};
+ghost use Rattle.std.specs.Prelude.{◌≡◌, ◌≢◌, [], Ok, IfErr, IfOk, IsOk, IsSomeAnd, OnOk, true};
 ghost use Rattle.metric_catalogue.specs.Catalogues.{opened_of};
+ghost use Rattle.metric_views.specs.Configs.{config_of};
 ghost use Rattle.wormweekly_commands.specs.Faults.{IsUnread};
 ghost use Rattle.wormweekly_commands.specs.Readings.{IsHeld};
-ghost use Rattle.wormweekly_commands.specs.Runs.{BindsFile, IsSourceFault, known_by, writing};
+ghost use Rattle.wormweekly_commands.specs.Runs.{AreSources, BindsFile, IsSetupFault, IsSourceFault, known_by, writing};
 
 use crate::delivering::{print, put};
-use crate::expanding::source_of;
+use crate::expanding::{catalogue_text, is_overwriting, texts_of_sources};
 use crate::fault::{ConsoleFault, Role};
 use crate::folder::{Folder, Unread};
 use crate::message::Message;
@@ -16,10 +17,11 @@ use crate::telling::stop;
 use metric_base::Text;
 use metric_bind::{BindFault, Bound, C, GO, PYTHON, RATTLE, RUST, Source, code_in};
 use metric_catalogue::{Catalogue, CatalogueFault};
-use metric_command_lines::{Language, Request};
+use metric_command_lines::{Files, Language, Request};
 use metric_io::Sink;
 use metric_kit_commands::KitFault;
-use std::alloc::Global;
+use metric_views::{Config, ViewFault};
+use std::alloc::{AllocError, Global};
 
 // The exit status where no code is made, or other code than a file has.
 const REFUSED: u8 = 1;
@@ -36,10 +38,35 @@ pub(crate) fn run_bind<F: Folder, W: Sink, E: Sink>(
     ensures { BindsFile (known_by F.held F.same folder.old) request.now.files
         (writing F.made W.contents folder.old folder.new sink.old sink.new) result }
 {
-    match source_of(alloc, folder, &request.files) {
+    match sources_of(alloc, folder, &request.files) {
         Ok(texts) => bind_source(alloc, request, &texts, folder, sink, errors),
         Err(fault) => stop(alloc, request, None, fault, errors),
     }
+}
+
+// The texts of the catalogue, and of the config where one is named, unless the file to write to is one of them.
+fn sources_of<F: Folder>(alloc: Global, folder: &F, files: &Files) -> Result<Texts, ConsoleFault>
+    ensures { IfOk result (λ texts. AreSources (F.held folder.now) files.now texts.parts) }
+{
+    let catalogue = catalogue_text(alloc, folder, files)?;
+    let config = config_text(alloc, folder, files)?;
+    Ok(texts_of_sources(alloc, catalogue, config))
+}
+
+// The text of the config where one is named, unless the file to write to is the same.
+fn config_text<F: Folder>(alloc: Global, folder: &F, files: &Files) -> Result<Text, ConsoleFault>
+    ensures read { IfOk result (λ text. files.now.config ≢ []
+        → IsHeld (F.held folder.now) files.now.config text) }
+    ensures apart { OnOk result (files.now.config ≢ []
+        → IsSomeAnd files.now.output (λ path. path ≡ files.now.config) → ⊥) }
+{
+    if files.config.as_str().is_empty() {
+        return Ok(Text::from_string(String::new(alloc)));
+    }
+    if is_overwriting(folder, files, &files.config) {
+        return Err(ConsoleFault::Overwrites { role: Role::Config });
+    }
+    text_at(alloc, folder, &files.config, Role::Config)
 }
 
 // Makes code of a catalogue that was read.
@@ -51,16 +78,12 @@ fn bind_source<F: Folder, W: Sink, E: Sink>(
     sink: &mut W,
     errors: &mut E,
 ) -> u8
-    requires read { IsHeld (F.held folder.old) request.now.files.catalogue
-        texts.now.parts.catalogue }
-    requires apart { IsSomeAnd request.now.files.output (λ path. path ≡ request.now.files.catalogue)
-        → ⊥ }
+    requires read { AreSources (F.held folder.old) request.now.files texts.now.parts }
     ensures { BindsFile (known_by F.held F.same folder.old) request.now.files
         (writing F.made W.contents folder.old folder.new sink.old sink.new) result }
 {
-    let source = texts.parts.catalogue.as_str();
-    match opened(alloc, source) {
-        Ok(catalogue) => bind_catalogue(alloc, request, source, &catalogue, folder, sink, errors),
+    match opened(alloc, texts.parts.catalogue.as_str()) {
+        Ok(catalogue) => bind_opened(alloc, request, texts, &catalogue, folder, sink, errors),
         Err(fault) => stop(alloc, request, Some(texts), fault, errors),
     }
 }
@@ -86,28 +109,70 @@ fn no_memory() -> ConsoleFault
     }
 }
 
-// Makes code of a catalogue that was opened.
-fn bind_catalogue<F: Folder, W: Sink, E: Sink>(
+// Makes code of a catalogue that was opened, with the readers of the config where one is named.
+fn bind_opened<F: Folder, W: Sink, E: Sink>(
     alloc: Global,
     request: &Request,
-    source: &str,
+    texts: &Texts,
     catalogue: &Catalogue,
     folder: &mut F,
     sink: &mut W,
     errors: &mut E,
 ) -> u8
-    requires read { IsHeld (F.held folder.old) request.now.files.catalogue source.now }
-    requires opened { opened_of source.now ≡ Ok catalogue.now }
-    requires apart { IsSomeAnd request.now.files.output (λ path. path ≡ request.now.files.catalogue)
-        → ⊥ }
+    requires read { AreSources (F.held folder.old) request.now.files texts.now.parts }
+    requires opened { opened_of texts.now.parts.catalogue ≡ Ok catalogue.now }
     ensures { BindsFile (known_by F.held F.same folder.old) request.now.files
         (writing F.made W.contents folder.old folder.new sink.old sink.new) result }
 {
-    match code_of(alloc, request.options.language, catalogue) {
+    match setup(alloc, &request.files, texts.parts.config.as_str()) {
+        Ok(config) => bind_catalogue(
+            alloc, request, texts, catalogue, &config, folder, sink, errors,
+        ),
+        Err(fault) => stop(alloc, request, Some(texts), fault, errors),
+    }
+}
+
+// The config that a text is, where one is named.
+fn setup(alloc: Global, files: &Files, text: &str) -> Result<Option<Config>, ConsoleFault>
+    ensures ok { OnOk result (files.now.config ≢ [] → IsOk (config_of text.now)) }
+    ensures first { IfErr result (λ fault.
+        (files.now.config ≢ []) × IsSetupFault text.now fault) }
+{
+    if files.config.as_str().is_empty() {
+        return Ok(None);
+    }
+    match Config::read(alloc, text) {
+        Ok(config) => Ok(Some(config)),
+        Err(ViewFault::Memory) => Err(ConsoleFault::Unread {
+            role: Role::Config,
+            cause: Unread::Memory,
+        }),
+        Err(fault) => Err(ConsoleFault::Kit(KitFault::Config(fault))),
+    }
+}
+
+// Makes code of a catalogue and a config.
+fn bind_catalogue<F: Folder, W: Sink, E: Sink>(
+    alloc: Global,
+    request: &Request,
+    texts: &Texts,
+    catalogue: &Catalogue,
+    config: &Option<Config>,
+    folder: &mut F,
+    sink: &mut W,
+    errors: &mut E,
+) -> u8
+    requires read { AreSources (F.held folder.old) request.now.files texts.now.parts }
+    requires opened { opened_of texts.now.parts.catalogue ≡ Ok catalogue.now }
+    requires config_read { request.now.files.config ≢ [] → IsOk (config_of texts.now.parts.config) }
+    ensures { BindsFile (known_by F.held F.same folder.old) request.now.files
+        (writing F.made W.contents folder.old folder.new sink.old sink.new) result }
+{
+    match code_of(alloc, request.options.language, catalogue, config) {
         Ok(bound) => put_code(
             alloc,
             request,
-            source,
+            texts,
             catalogue,
             bound.text(),
             folder,
@@ -119,17 +184,19 @@ fn bind_catalogue<F: Folder, W: Sink, E: Sink>(
     }
 }
 
-// The code that a catalogue comes to.
+// The code that a catalogue comes to, with the readers of a config.
 fn code_of(
     alloc: Global,
     language: Option<Language>,
     catalogue: &Catalogue,
+    config: &Option<Config>,
 ) -> Result<Bound, BindFault> {
+    let readers = reader_names(alloc, config)?;
     let source = Source {
         meters: catalogue.meters(),
         instruments: catalogue.instruments(),
         recorders: catalogue.recorders(),
-        readers: None,
+        readers: config.is_some().then_some(readers.as_slice()),
     };
     let language = match language {
         Some(Language::C) => &C,
@@ -141,21 +208,32 @@ fn code_of(
     code_in(alloc, source, language)
 }
 
+// The names of the readers of a config; none where there is no config.
+fn reader_names(alloc: Global, config: &Option<Config>) -> Result<Vec<&str>, AllocError> {
+    let mut names = Vec::new(alloc);
+    let Some(config) = config else {
+        return Ok(names);
+    };
+    for reader in config.readers() {
+        names.push(reader.name.as_str())?;
+    }
+    Ok(names)
+}
+
 // Writes code, or compares it with a file.
 fn put_code<F: Folder, W: Sink, E: Sink>(
     alloc: Global,
     request: &Request,
-    source: &str,
+    texts: &Texts,
     catalogue: &Catalogue,
     code: &str,
     folder: &mut F,
     sink: &mut W,
     errors: &mut E,
 ) -> u8
-    requires read { IsHeld (F.held folder.old) request.now.files.catalogue source.now }
-    requires opened { opened_of source.now ≡ Ok catalogue.now }
-    requires apart { IsSomeAnd request.now.files.output (λ path. path ≡ request.now.files.catalogue)
-        → ⊥ }
+    requires read { AreSources (F.held folder.old) request.now.files texts.now.parts }
+    requires opened { opened_of texts.now.parts.catalogue ≡ Ok catalogue.now }
+    requires config_read { request.now.files.config ≢ [] → IsOk (config_of texts.now.parts.config) }
     ensures { BindsFile (known_by F.held F.same folder.old) request.now.files
         (writing F.made W.contents folder.old folder.new sink.old sink.new) result }
 {

@@ -35,34 +35,45 @@ pub(crate) fn run_expand<F: Folder, W: Sink, E: Sink>(
     }
 }
 
-/// The text of the catalogue, unless the file to write to is the same.
-pub(crate) fn source_of<F: Folder>(
-    alloc: Global,
-    folder: &F,
-    files: &Files,
-) -> Result<Texts, ConsoleFault>
+// The catalogue alone, unless the file to write to is the same.
+fn source_of<F: Folder>(alloc: Global, folder: &F, files: &Files) -> Result<Texts, ConsoleFault>
     ensures read { IfOk result (λ texts.
         IsHeld (F.held folder.now) files.now.catalogue texts.parts.catalogue) }
     ensures apart { OnOk result
         (IsSomeAnd files.now.output (λ path. path ≡ files.now.catalogue) → ⊥) }
 {
-    if is_overwriting(folder, files) {
+    let catalogue = catalogue_text(alloc, folder, files)?;
+    let config = Text::from_string(String::new(alloc));
+    Ok(texts_of_sources(alloc, catalogue, config))
+}
+
+/// The text of the catalogue, unless the file to write to is the same.
+pub(crate) fn catalogue_text<F: Folder>(
+    alloc: Global,
+    folder: &F,
+    files: &Files,
+) -> Result<Text, ConsoleFault>
+    ensures read { IfOk result (λ text. IsHeld (F.held folder.now) files.now.catalogue text) }
+    ensures apart { OnOk result
+        (IsSomeAnd files.now.output (λ path. path ≡ files.now.catalogue) → ⊥) }
+{
+    if is_overwriting(folder, files, &files.catalogue) {
         return Err(ConsoleFault::Overwrites {
             role: Role::Catalogue,
         });
     }
-    let catalogue = text_at(alloc, folder, &files.catalogue, Role::Catalogue)?;
-    Ok(texts_of_catalogue(alloc, catalogue))
+    text_at(alloc, folder, &files.catalogue, Role::Catalogue)
 }
 
-// The text of a catalogue, with no other.
-fn texts_of_catalogue(alloc: Global, catalogue: Text) -> Texts
-    ensures { result.parts.catalogue ≡ catalogue }
+/// The texts of a catalogue and a config, with no other.
+pub(crate) fn texts_of_sources(alloc: Global, catalogue: Text, config: Text) -> Texts
+    ensures catalogue { result.parts.catalogue ≡ catalogue }
+    ensures config { result.parts.config ≡ config }
 {
     let parts = Parts {
         catalogue,
         opens: true,
-        config: Text::from_string(String::new(alloc)),
+        config,
         certificate: None,
         script: None,
     };
@@ -75,12 +86,12 @@ fn texts_of_catalogue(alloc: Global, catalogue: Text) -> Texts
     }
 }
 
-fn is_overwriting<F: Folder>(folder: &F, files: &Files) -> bool
-    ensures { result ≡ false
-        → IsSomeAnd files.now.output (λ path. path ≡ files.now.catalogue) → ⊥ }
+/// Whether the file to write to is one that is read.
+pub(crate) fn is_overwriting<F: Folder>(folder: &F, files: &Files, input: &Text) -> bool
+    ensures { result ≡ false → IsSomeAnd files.now.output (λ path. path ≡ input.now) → ⊥ }
 {
     match &files.output {
-        Some(output) => folder.is_same(output.as_str(), files.catalogue.as_str()),
+        Some(output) => folder.is_same(output.as_str(), input.as_str()),
         None => false,
     }
 }
