@@ -26,6 +26,8 @@ mod lanes;
 #[cfg(test)]
 mod lives;
 #[cfg(test)]
+mod many;
+#[cfg(test)]
 mod page;
 #[cfg(test)]
 mod runs;
